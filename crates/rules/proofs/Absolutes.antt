@@ -1,0 +1,136 @@
+-- The CRI of an absolute reference, the reference of a CRI, and what a CRI that was read keeps.
+use Prim.Native.Nat.{ℕ, _≤_, _<_, _^_}
+use native.Mathlib.Omega.{arith}
+use mathlib.Core.Path.{_≡_, refl, sym, ap, _∙_, subst}
+use mathlib.Core.Bool.{Bool, true, false, _&&_}
+use mathlib.Core.List.{List, [], _∷_}
+use mathlib.Core.Option.{Option, none, some}
+use lib.ListN.{length}
+use lib.Dec.{leb, lit≤}
+use borrow.Author.Tests.{leb-true}
+use Rattle.rules.specs.Bytes.{Bytes, Each, Octets, within}
+use Rattle.rules.specs.Result.{Res, refused, ok, given, _>>=_, BASE}
+use Rattle.rules.specs.Model.{Scheme, Authority, Opening, discard, discardAll, full, Reference, Limits, Cri, segments, absolute, reference, setPath}
+use Rattle.rules.specs.Rules.{segment, parameter, fragmentText}
+use Rattle.rules.specs.Meaning.{readReference, readAbsolute}
+use Rattle.rules.specs.Encode.{encode}
+use Rattle.rules.specs.Valid.{If, Good, GoodTexts, GoodAuthority, GoodScheme, GoodOpening, Valid}
+use Rattle.rules.specs.Resolve.{fits}
+use Rattle.rules.proofs.Tools.{and-left, and-right, is-within}
+use Rattle.rules.proofs.Steps.{bind-ok, ok-at}
+use Rattle.rules.proofs.Reading.{canonical, complete}
+
+-- ---- absolute references
+
+-- the reference r is absolute, and c is its CRI
+pub record Absolute (r : Reference) (c : Cri) : Type 0 where
+  pub opening : r .opening ≡ full (some (c .scheme)) (some (c .authority))
+  pub path : segments (r .path) ≡ c .path
+  pub query : r .query ≡ c .query
+  pub fragment : r .fragment ≡ c .fragment
+
+none-some : {A B : Type 0} (a : A) → none ≡ some a → B
+none-some a e = let z : _≡_ {A = ℕ} 0 1 = cc in absurd (omega arith)
+
+absolute-parts : (o : Opening Bytes) (p q : Option (List Bytes)) (f : Option Bytes) (c : Cri)
+    → absolute (record { opening = o; path = p; query = q; fragment = f }) ≡ some c → Absolute (record { opening = o; path = p; query = q; fragment = f }) c
+unfolding absolute
+absolute-parts (discard k) p q f c e = none-some c e
+absolute-parts discardAll p q f c e = none-some c e
+absolute-parts (full none a) p q f c e = none-some c e
+absolute-parts (full (some s) none) p q f c e = none-some c e
+absolute-parts (full (some s) (some a)) p q f c e =
+    let d : _≡_ {A = Cri} (record { scheme = s; authority = a; path = segments p; query = q; fragment = f }) c = cc in
+    record {
+      opening = ap (λ (c : Cri). full (some (c .scheme)) (some (c .authority))) d;
+      path = ap (λ (c : Cri). c .path) d;
+      query = ap (λ (c : Cri). c .query) d;
+      fragment = ap (λ (c : Cri). c .fragment) d;
+    }
+
+pub absolute-is : (r : Reference) (c : Cri) → absolute r ≡ some c → Absolute r c
+absolute-is r c e = absolute-parts (r .opening) (r .path) (r .query) (r .fragment) c e
+
+segments-setPath : (ts : List Bytes) → segments (setPath ts) ≡ ts
+segments-setPath [] = refl
+segments-setPath (t ∷ ts) = refl
+
+pub absolute-reference : (c : Cri) → absolute (reference c) ≡ some c
+unfolding absolute reference
+absolute-reference c =
+    ap (λ (p : List Bytes). some (record { scheme = c .scheme; authority = c .authority; path = p; query = c .query; fragment = c .fragment })) (segments-setPath (c .path))
+
+-- ---- what was read as absolute
+
+pub record ReadAs (lim : Limits) (bs : Bytes) (c : Cri) : Type 0 where
+  pub said : Reference
+  pub read : readReference lim bs ≡ ok said
+  pub is : Absolute said c
+
+pub read-as : (lim : Limits) (bs : Bytes) (c : Cri) → readAbsolute lim bs ≡ ok c → ReadAs lim bs c
+unfolding readAbsolute _>>=_ given
+read-as lim bs c e = go (readReference lim bs) refl e
+  where
+    refused-ok : {A B : Type 0} (n k : ℕ) (a : A) → refused n k ≡ ok a → B
+    refused-ok n k a e = let z : _≡_ {A = ℕ} 0 1 = cc in absurd (omega arith)
+
+    held : (r : Reference) (o : Option Cri) → absolute r ≡ o → given o BASE 0 ≡ ok c → readReference lim bs ≡ ok r → ReadAs lim bs c
+    held r none d e m = refused-ok BASE 0 c e
+    held r (some a) d e m = let s : a ≡ c = cc in record { said = r; read = m; is = absolute-is r c (d ∙ ap some s) }
+
+    go : (m : Res Reference) → readReference lim bs ≡ m → (m >>= λ r. given (absolute r) BASE 0) ≡ ok c → ReadAs lim bs c
+    go (refused n k) m e = refused-ok n k c e
+    go (ok r) m e = held r (absolute r) refl e m
+
+-- ---- what a CRI keeps
+
+pub record GoodCri (c : Cri) : Type 0 where
+  pub scheme : GoodScheme (c .scheme)
+  pub authority : GoodAuthority (c .authority)
+  pub path : Each (Good segment) (c .path)
+  pub query : If (GoodTexts parameter 1 16) (c .query)
+  pub fragment : If (Good fragmentText) (c .fragment)
+
+pub good-path : (low high : ℕ) (p : Option (List Bytes)) → If (GoodTexts segment low high) p → Each (Good segment) (segments p)
+good-path low high none g = tt
+good-path low high (some ts) g = g .each
+
+pub good-cri : (lim : Limits) (r : Reference) (c : Cri) → Valid lim r → Absolute r c → GoodCri c
+good-cri lim r c v a =
+    let o : GoodOpening (full (some (c .scheme)) (some (c .authority))) = subst GoodOpening (a .opening) (v .opening) in
+    record {
+      scheme = o .0;
+      authority = o .1;
+      path = subst (Each (Good segment)) (a .path) (good-path 0 (lim .segments) (r .path) (v .path));
+      query = subst (If (GoodTexts parameter 1 16)) (a .query) (v .query);
+      fragment = subst (If (Good fragmentText)) (a .fragment) (v .fragment);
+    }
+
+-- of an accepted absolute input
+pub good-read : (lim : Limits) (bs : Bytes) (c : Cri) → Octets bs → readAbsolute lim bs ≡ ok c → GoodCri c
+good-read lim bs c h e =
+    let r = read-as lim bs c e in
+    good-cri lim (r .said) c (ok-at (canonical lim bs h) (r .read) .1) (r .is)
+
+-- a CRI that fits is read again from its encoding
+set-valid : (n : ℕ) (ts : List Bytes) → Each (Good segment) ts → length ts ≤ n → If (GoodTexts segment 0 n) (setPath ts)
+set-valid n [] g l = tt
+set-valid n (t ∷ ts) g l = record { count = is-within 0 n (length (t ∷ ts)) (omega arith) l; each = g }
+
+pub fits-valid : (lim : Limits) (c : Cri) → GoodCri c → fits lim c ≡ true → Valid lim (reference c)
+unfolding fits reference
+fits-valid lim c g e =
+    let n : length (c .path) ≤ lim .segments = leb-true _ _ (and-left (leb (length (c .path)) (lim .segments)) _ e) in
+    record {
+      opening = (g .scheme, g .authority);
+      path = set-valid (lim .segments) (c .path) (g .path) n;
+      query = g .query;
+      fragment = g .fragment;
+      size = leb-true _ _ (and-right (leb (length (c .path)) (lim .segments)) _ e);
+    }
+
+pub fits-read : (lim : Limits) → lim .segments < 2 ^ 64 → (c : Cri) → GoodCri c → fits lim c ≡ true → readAbsolute lim (encode (reference c)) ≡ ok c
+unfolding readAbsolute given
+fits-read lim small c g e =
+    sym (bind-ok _ _ (reference c) (sym (complete lim small (reference c) (fits-valid lim c g e))))
+    ∙ ap (λ (o : Option Cri). given o BASE 0) (absolute-reference c)

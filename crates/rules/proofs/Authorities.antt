@@ -1,0 +1,418 @@
+-- The laws of the authority.
+use Prim.Native.Nat.{ℕ, zero, suc, _+_, _-_, _^_, _≤_, _<_}
+use native.Mathlib.Omega.{arith}
+use native.Mathlib.Nat.{add-zero}
+use mathlib.Core.Path.{_≡_, refl, sym, ap, ap₂, _∙_, subst}
+use mathlib.Core.Bool.{Bool, true, false, not, _||_}
+use mathlib.Core.List.{List, [], _∷_, _++_, append-assoc, append-nil, map}
+use mathlib.Core.Option.{Option, none, some}
+use lib.ListN.{length, drop, length-append, length-map}
+use lib.Dec.{leb, ltb, eqb, lit≤, lit<}
+use borrow.Author.Tests.{leb-true, le-leb, ltb-true, lt-ltb, eqb-true}
+use Rattle.rules.specs.Bytes.{Bytes, Each, Octets, within, concat}
+use Rattle.rules.specs.Result.{Res, ok, need, _>>=_, _>>_, if_then_else_}
+use Rattle.rules.specs.Model.{Host, address, labels, Authority}
+use Rattle.rules.specs.Head.{Kind, Number, ByteString, Text, Array, codeOf, is, Head, kindAt, headAt, readHead, headBytes}
+use Rattle.rules.specs.Rules.{label, nameRule}
+use Rattle.rules.specs.Reader.{readContent, endAt, spans, taken, contents, textBody, HostAt, addressAt, labelsAt, AuthorityAt, Names, readNothing, portBody, readPort, labelBody, readNames, addressHost, labelsHost, readAuthority}
+use Rattle.rules.specs.Encode.{textItem, arrayItem, portItems, hostItems, authorityItem}
+use Rattle.rules.specs.Valid.{If, Good, GoodTexts, GoodAddress, GoodLabels, GoodHost, GoodAuthority}
+use Rattle.rules.proofs.Tools.{never, by-test, or-left, or-right, within-low, within-high, is-within, length-part, octets-part}
+use Rattle.rules.proofs.Steps.{Ok, ok!, ok-bind, ok-map, ok-if, ok-need, Yes, yes!, yes-bind, yes-map, yes-then, yes-else, yes-need, Stable, same!, stable-bind, stable-bind-ok, stable-if, stable-need}
+use Rattle.rules.proofs.Heads.{is-kind, Stands, ok-head, yes-head, head-spells, next-inside, Wrote, wrote, head-stable, head-ok}
+use Rattle.rules.proofs.Texts.{contentAt, TextAt, ok-textBody, TextWas, good-64, yes-textBody, wrote-text, textBody-stable, ok-content, yes-content, content-stable, item-spells, item-was, Items, length-contents, contents-more}
+use Rattle.rules.proofs.Slots.{item-one}
+
+-- what positions say
+abbrev pub hostOf : Bytes → HostAt → Host Bytes
+hostOf bs (addressAt at n) = address (taken bs (record { start = at; length = n }))
+hostOf bs (labelsAt at n) = labels (contents bs at n)
+
+abbrev pub authorityOf : Bytes → AuthorityAt → Authority Bytes
+authorityOf bs a = record { host = hostOf bs (a .host); port = a .port }
+
+-- ---- an authority that is accepted
+
+abbrev pub GoodPort : Option ℕ → Type 0
+GoodPort = If (λ p. p ≤ 65535)
+
+pub cons-spells : (x : Bytes) (xs : List Bytes) (l m r : Bytes) → l ≡ x ++ m → m ≡ concat xs ++ r → l ≡ concat (x ∷ xs) ++ r
+unfolding concat
+cons-spells x xs l m r e e′ = e ∙ ap (λ (y : Bytes). x ++ y) e′ ∙ sym (append-assoc x (concat xs) r)
+
+ok-nothing : (bs : Bytes) (at left : ℕ) → Ok (λ next. (next ≡ at) × (left ≡ 0)) (readNothing bs at left)
+unfolding readNothing
+ok-nothing bs at zero = ok! (refl, refl)
+ok-nothing bs at (suc left) = ok-head _ _ _ _ (λ r. never (r .kind))
+
+-- where `left` items are left, this port
+pub record PortAt (bs : Bytes) (at left : ℕ) (r : Names) : Type 0 where
+  pub spells : drop at bs ≡ concat (portItems (r .port)) ++ drop (r .next) bs
+  pub items : length (portItems (r .port)) ≡ left
+  pub good : GoodPort (r .port)
+  pub inside : at ≤ length bs → r .next ≤ length bs
+
+ok-portBody : {allowed : Kind → Bool} (bs : Bytes) (at left n : ℕ) → Octets bs → Stands allowed bs at → kindAt bs at ≡ Number
+    → Ok (λ r. (r .count ≡ n) × PortAt bs at (suc left) r) (portBody bs at left n (headAt bs at))
+unfolding portBody portItems concat
+ok-portBody bs at left n sm r e =
+    let h : Head = headAt bs at in
+    ok-need _ _ _ _ (λ w. ok-bind _ _ (ok-nothing bs (h .next) left) (λ next z.
+    ok! (
+      refl,
+      record {
+        spells = head-spells bs at sm r Number tt e ∙ ap₂ (λ (x : Bytes) (m : ℕ). x ++ drop m bs) (sym (append-nil (headBytes Number (h .value)))) (sym (z .0));
+        items = ap suc (sym (z .1));
+        good = leb-true _ _ w;
+        inside = λ i. omega (arith, z .0, next-inside bs at r);
+      },
+    )))
+
+ok-port : (bs : Bytes) (at left : ℕ) → Octets bs → Ok (λ r. PortAt bs at left r) (readPort bs at left)
+unfolding readPort portItems concat
+ok-port bs at zero sm = ok! (record { spells = refl; items = refl; good = tt; inside = λ h. h })
+ok-port bs at (suc left) sm = ok-head _ _ _ _ (λ r. ok-map (ok-portBody bs at left 0 sm r (is-kind Number _ (r .kind))) (λ n p. p .1))
+
+pub ok-labelBody : {allowed : Kind → Bool} (n : ℕ) (bs : Bytes) (at : ℕ) → Octets bs → Stands allowed bs at → kindAt bs at ≡ Text
+    → Ok (λ next. (n < 8) × TextAt label bs at next) (labelBody n bs at (headAt bs at))
+unfolding labelBody
+ok-labelBody n bs at sm r e = ok-need _ _ _ _ (λ w. ok-map (ok-textBody label bs at sm r e) (λ next t. (ltb-true _ _ w, t)))
+
+-- after n labels, and where `left` items are left: so many more labels, and the port
+pub record NamesAt (bs : Bytes) (at left n : ℕ) (r : Names) : Type 0 where
+  pub more : ℕ
+  pub count : r .count ≡ n + more
+  pub spells : drop at bs ≡ concat (map textItem (contents bs at more) ++ portItems (r .port)) ++ drop (r .next) bs
+  pub items : more + length (portItems (r .port)) ≡ left
+  pub most : n ≤ 8 → r .count ≤ 8
+  pub good : Each (Good label) (contents bs at more)
+  pub port : GoodPort (r .port)
+  pub stand : Items bs at more
+  pub inside : at ≤ length bs → r .next ≤ length bs
+  pub stay : (q : Bytes) → contents (bs ++ q) at more ≡ contents bs at more
+
+pub ok-names : (bs : Bytes) (at left n : ℕ) → Octets bs → Ok (λ r. NamesAt bs at left n r) (readNames bs at left n)
+unfolding readNames contents spans portItems concat headAt
+ok-names bs at zero n sm = ok! (record { more = 0; count = sym (add-zero n); spells = refl; items = refl; most = λ h. h; good = tt; port = tt; stand = tt; inside = λ h. h; stay = λ q. refl })
+ok-names bs at (suc left) n sm =
+    ok-head _ _ _ _ (λ r. ok-if _ _ _
+    (λ y. ok-bind _ _ (ok-labelBody n bs at sm r (is-kind Text _ y)) (λ mid t. ok-map (ok-names bs mid left (suc n) sm) (λ a q.
+    let q′ : NamesAt bs (endAt bs at) left (suc n) a = subst (λ (m : ℕ). NamesAt bs m left (suc n) a) (t .1 .ends) q in
+    record {
+      more = suc (q′ .more);
+      count = omega (arith, q′ .count);
+      spells = cons-spells (textItem (contentAt bs at)) (map textItem (contents bs (endAt bs at) (q′ .more)) ++ portItems (a .port)) _ _ (drop (a .next) bs) (t .1 .spells ∙ ap (λ (m : ℕ). textItem (contentAt bs at) ++ drop m bs) (t .1 .ends)) (q′ .spells);
+      items = omega (arith, q′ .items);
+      most = λ h. q′ .most (t .0);
+      good = (t .1 .good, q′ .good);
+      port = q′ .port;
+      stand = (t .1 .stands, q′ .stand);
+      inside = λ h. q′ .inside (t .1 .stands .inside);
+      stay = λ more. contents-more bs more at (q′ .more) (t .1 .stands .inside) (q′ .stay more);
+    })))
+    (λ f. ok-map (ok-portBody bs at left n sm r (is-kind Number _ (or-right _ _ (r .kind) f))) (λ a p.
+    record { more = 0; count = omega (arith, p .0); spells = p .1 .spells; items = omega (arith, p .1 .items); most = λ h. omega (arith, p .0); good = tt; port = p .1 .good; stand = tt; inside = p .1 .inside; stay = λ q. refl })))
+
+-- the items of the authority, of which `left` stand after the first
+pub record InsideAt (bs : Bytes) (at left : ℕ) (a : AuthorityAt) : Type 0 where
+  pub spells : drop at bs ≡ concat (hostItems (hostOf bs (a .host)) ++ portItems (a .port)) ++ drop (a .next) bs
+  pub items : length (hostItems (hostOf bs (a .host)) ++ portItems (a .port)) ≡ suc left
+  pub host : GoodHost (hostOf bs (a .host))
+  pub port : GoodPort (a .port)
+  pub inside : a .next ≤ length bs
+
+ok-addressHost : {allowed : Kind → Bool} (bs : Bytes) (start at left : ℕ) → Octets bs → Stands allowed bs at → kindAt bs at ≡ ByteString
+    → Ok (λ a. InsideAt bs at left a) (addressHost bs start at left (headAt bs at))
+unfolding addressHost hostItems
+ok-addressHost bs start at left sm r e =
+    let h : Head = headAt bs at in
+    ok-need _ _ _ _ (λ w. ok-content _ _ _ _ (λ l. ok-bind _ _ (ok-port bs (endAt bs at) left sm) (λ p q.
+    ok! (record {
+      spells = cons-spells (headBytes ByteString (length (contentAt bs at)) ++ contentAt bs at) (portItems (p .port)) _ _ (drop (p .next) bs)
+          (item-spells bs at sm r ByteString tt e l) (q .spells);
+      items = ap suc (q .items);
+      host = record {
+        size = subst (λ (n : ℕ). (eqb n 4 || eqb n 16) ≡ true) (sym (length-part bs (h .next) (h .value) l)) w;
+        octets = octets-part bs (h .next) (h .value) sm;
+      };
+      port = q .good;
+      inside = q .inside l;
+    }))))
+
+ok-labelsHost : {allowed : Kind → Bool} (bs : Bytes) (start at left : ℕ) → Octets bs → Stands allowed bs at → kindAt bs at ≡ Text
+    → Ok (λ a. InsideAt bs at left a) (labelsHost bs start at left (headAt bs at))
+unfolding labelsHost hostItems contents spans
+ok-labelsHost bs start at left sm r e =
+    ok-bind _ _ (ok-labelBody 0 bs at sm r e) (λ mid t. ok-bind _ _ (ok-names bs mid left 1 sm) (λ p q. ok-need _ _ _ _ (λ w.
+    ok! (all-labels mid t p q w))))
+  where
+    all-labels : (mid : ℕ) → (0 < 8) × TextAt label bs at mid → (p : Names) → NamesAt bs mid left 1 p → nameRule (contents bs at (p .count)) ≡ true
+        → InsideAt bs at left (record { at = start; host = labelsAt at (p .count); port = p .port; next = p .next })
+    all-labels mid t p q w =
+        let q′ : NamesAt bs (endAt bs at) left 1 p = subst (λ (m : ℕ). NamesAt bs m left 1 p) (t .1 .ends) q in
+        let others : List Bytes = contents bs (endAt bs at) (q′ .more) in
+        let c : p .count ≡ suc (q′ .more) = omega (arith, q′ .count) in
+        let cs : contents bs at (p .count) ≡ contentAt bs at ∷ others = ap (contents bs at) c in
+        let one : length (contents bs at (p .count)) ≡ p .count = length-contents bs at (p .count) in
+        record {
+          spells =
+              cons-spells (textItem (contentAt bs at)) (map textItem others ++ portItems (p .port)) _ _ (drop (p .next) bs)
+              (t .1 .spells ∙ ap (λ (m : ℕ). textItem (contentAt bs at) ++ drop m bs) (t .1 .ends)) (q′ .spells)
+              ∙ ap (λ (ts : List Bytes). concat (map textItem ts ++ portItems (p .port)) ++ drop (p .next) bs) (sym cs);
+          items = length-append (map textItem (contents bs at (p .count))) (portItems (p .port)) ∙ omega (arith, length-map (contents bs at (p .count)) textItem, one, c, q′ .items);
+          host = record {
+            texts = record {
+              count = is-within 1 8 (length (contents bs at (p .count))) (omega (arith, one, c)) (omega (arith, one, q′ .most (lit≤ tt)));
+              each = subst (λ (ts : List Bytes). Each (Good label) ts) (sym cs) (t .1 .good, q′ .good);
+            };
+            name = w;
+          };
+          port = q′ .port;
+          inside = q′ .inside (t .1 .stands .inside);
+        }
+
+pub record AuthorityIs (bs : Bytes) (at : ℕ) (a : AuthorityAt) : Type 0 where
+  pub spells : drop at bs ≡ authorityItem (authorityOf bs a) ++ drop (a .next) bs
+  pub good : GoodAuthority (authorityOf bs a)
+  pub inside : a .next ≤ length bs
+
+authority-is : {allowed : Kind → Bool} (bs : Bytes) (at : ℕ) (a : AuthorityAt) → Octets bs → Stands allowed bs at → kindAt bs at ≡ Array → within 1 9 (headAt bs at .value) ≡ true
+    → InsideAt bs (headAt bs at .next) (headAt bs at .value - 1) a → AuthorityIs bs at a
+unfolding authorityItem arrayItem
+authority-is bs at a sm r e w i =
+    let h : Head = headAt bs at in
+    let items : List Bytes = hostItems (hostOf bs (a .host)) ++ portItems (a .port) in
+    let n : length items ≡ h .value = omega (arith, i .items, within-low 1 9 (h .value) w) in
+    record {
+      spells = head-spells bs at sm r Array tt e
+          ∙ ap₂ (λ (v : ℕ) (xs : Bytes). headBytes Array v ++ xs) (sym n) (i .spells)
+          ∙ sym (append-assoc (headBytes Array (length items)) (concat items) (drop (a .next) bs));
+      good = record { host = i .host; port = i .port };
+      inside = i .inside;
+    }
+
+pub ok-authority : (bs : Bytes) (at : ℕ) → Octets bs → Ok (λ a. AuthorityIs bs at a) (readAuthority bs at)
+unfolding readAuthority headAt
+ok-authority bs at sm =
+    ok-head _ _ _ _ (λ r. ok-need _ _ _ _ (λ w. ok-head _ _ _ _ (λ r′. ok-if _ _ _
+    (λ y. ok-map (ok-labelsHost bs at (headAt bs at .next) (headAt bs at .value - 1) sm r′ (is-kind Text _ y)) (λ a i. authority-is bs at a sm r (is-kind Array _ (r .kind)) w i))
+    (λ f. ok-map (ok-addressHost bs at (headAt bs at .next) (headAt bs at .value - 1) sm r′ (is-kind ByteString _ (or-left _ _ (r′ .kind) f))) (λ a i. authority-is bs at a sm r (is-kind Array _ (r .kind)) w i)))))
+
+-- ---- an authority that was written is accepted
+
+pub record PortWas (o : Option ℕ) (bs rest : Bytes) (r : Names) : Type 0 where
+  pub says : r .port ≡ o
+  pub after : drop (r .next) bs ≡ rest
+
+-- the first of several items that were written
+pub first-item : (x : Bytes) (xs : List Bytes) (l rest : Bytes) → l ≡ concat (x ∷ xs) ++ rest → l ≡ x ++ (concat xs ++ rest)
+unfolding concat
+first-item x xs l rest e = e ∙ append-assoc x (concat xs) rest
+
+wrote-port : (v : ℕ) (bs : Bytes) (at : ℕ) (rest : Bytes) → v ≤ 65535 → drop at bs ≡ concat (portItems (some v)) ++ rest → Wrote Number v bs at rest
+unfolding portItems
+wrote-port v bs at rest g e = wrote Number v bs at rest (omega arith) (item-one (headBytes Number v) _ rest e)
+
+yes-portBody : (v n : ℕ) (bs : Bytes) (at : ℕ) (rest : Bytes) → v ≤ 65535 → Wrote Number v bs at rest
+    → Yes (λ r. (r .count ≡ n) × PortWas (some v) bs rest r) (portBody bs at 0 n (headAt bs at))
+unfolding portBody readNothing _>>=_
+yes-portBody v n bs at rest g w =
+    yes-need _ _ _ _ (subst (λ (x : ℕ). leb x 65535 ≡ true) (sym (w .value)) (le-leb v 65535 g))
+    (yes! (refl, record { says = ap some (w .value); after = w .rest }))
+
+yes-port : (o : Option ℕ) (bs : Bytes) (at : ℕ) (rest : Bytes) → GoodPort o → drop at bs ≡ concat (portItems o) ++ rest
+    → Yes (λ r. PortWas o bs rest r) (readPort bs at (length (portItems o)))
+unfolding readPort portItems concat codeOf
+yes-port none bs at rest g e = yes! (record { says = refl; after = e })
+yes-port (some v) bs at rest g e =
+    let w = wrote-port v bs at rest g e in
+    yes-head _ _ _ _ (w .stands (is Number) refl) (yes-map (yes-portBody v 0 bs at rest g w) (λ r p. p .1))
+
+pub record NamesWas (ts : List Bytes) (n : ℕ) (o : Option ℕ) (bs : Bytes) (at : ℕ) (rest : Bytes) (r : Names) : Type 0 where
+  pub count : r .count ≡ n + length ts
+  pub says : contents bs at (length ts) ≡ ts
+  pub port : r .port ≡ o
+  pub after : drop (r .next) bs ≡ rest
+
+label-64 : (t : Bytes) → Good label t → length t < 2 ^ 64
+label-64 t g = good-64 {s = label} (lit< tt) t g
+
+yes-labelBody : (n : ℕ) (t bs : Bytes) (at : ℕ) (rest : Bytes) → n < 8 → Wrote Text (length t) bs at (t ++ rest) → Good label t
+    → Yes (λ next. TextWas t bs at rest next) (labelBody n bs at (headAt bs at))
+unfolding labelBody
+yes-labelBody n t bs at rest h w g = yes-need _ _ _ _ (lt-ltb _ _ h) (yes-textBody label t bs at rest w g)
+
+yes-names : (ts : List Bytes) (n : ℕ) (o : Option ℕ) (bs : Bytes) (at : ℕ) (rest : Bytes) → n + length ts ≤ 8 → Each (Good label) ts → GoodPort o
+    → drop at bs ≡ concat (map textItem ts ++ portItems o) ++ rest
+    → Yes (λ r. NamesWas ts n o bs at rest r) (readNames bs at (length (map textItem ts ++ portItems o)) n)
+unfolding readNames contents spans concat portItems codeOf
+yes-names [] n none bs at rest l g p e = yes! (record { count = sym (add-zero n); says = refl; port = refl; after = e })
+yes-names [] n (some v) bs at rest l g p e =
+    let w = wrote-port v bs at rest p e in
+    yes-head _ _ _ _ (w .stands (λ k. is Text k || is Number k) refl)
+    (yes-else _ _ _ (subst (λ (k : Kind). not (is Text k) ≡ true) (sym (w .kind)) refl)
+    (yes-map (yes-portBody v n bs at rest p w) (λ r q. record { count = q .0 ∙ sym (add-zero n); says = refl; port = q .1 .says; after = q .1 .after })))
+yes-names (t ∷ ts) n o bs at rest l g p e =
+    let others : List Bytes = map textItem ts ++ portItems o in
+    let w = wrote-text t bs at (concat others ++ rest) (label-64 t (g .0)) (first-item (textItem t) others _ rest e) in
+    yes-head _ _ _ _ (w .stands (λ k. is Text k || is Number k) refl)
+    (yes-then _ _ _ (subst (λ (k : Kind). is Text k ≡ true) (sym (w .kind)) refl)
+    (yes-bind _ _ (yes-labelBody n t bs at (concat others ++ rest) (omega arith) w (g .0)) (λ mid x.
+    yes-map (yes-names ts (suc n) o bs mid rest (omega arith) (g .1) p (x .after)) (λ r y.
+    record {
+      count = omega (arith, y .count);
+      says = ap₂ (λ (z : Bytes) (zs : List Bytes). z ∷ zs) (x .says) (ap (λ (m : ℕ). contents bs m (length ts)) (sym (x .ends)) ∙ y .says);
+      port = y .port;
+      after = y .after;
+    }))))
+
+pub record AuthorityWas (a : Authority Bytes) (bs rest : Bytes) (r : AuthorityAt) : Type 0 where
+  pub says : authorityOf bs r ≡ a
+  pub after : drop (r .next) bs ≡ rest
+
+-- an authority is its host and its port
+pub same-authority : {h h′ : Host Bytes} {o o′ : Option ℕ} → h ≡ h′ → o ≡ o′ → _≡_ {A = Authority Bytes} (record { host = h; port = o }) (record { host = h′; port = o′ })
+same-authority e e′ = λ i. record { host = e i; port = e′ i }
+
+yes-addressHost : (x : Bytes) (o : Option ℕ) (bs : Bytes) (start at left : ℕ) (rest : Bytes) → GoodAddress x → GoodPort o → left ≡ length (portItems o)
+    → Wrote ByteString (length x) bs at (x ++ (concat (portItems o) ++ rest))
+    → Yes (λ r. AuthorityWas (record { host = address x; port = o }) bs rest r) (addressHost bs start at left (headAt bs at))
+unfolding addressHost
+yes-addressHost x o bs start at left rest g p n w =
+    let i = item-was ByteString x bs at (concat (portItems o) ++ rest) w in
+    yes-need _ _ _ _ (subst (λ (m : ℕ). (eqb m 4 || eqb m 16) ≡ true) (sym (w .value)) (g .size))
+    (yes-content _ _ _ _ (i .2)
+    (rw n (yes-bind _ _ (yes-port o bs (endAt bs at) rest p (i .1)) (λ r q.
+    yes! (record { says = same-authority (ap address (i .0)) (q .says); after = q .after })))))
+
+yes-labelsHost : (t : Bytes) (ts : List Bytes) (o : Option ℕ) (bs : Bytes) (start at left : ℕ) (rest : Bytes) → GoodLabels (t ∷ ts) → GoodPort o
+    → left ≡ length (map textItem ts ++ portItems o)
+    → Wrote Text (length t) bs at (t ++ (concat (map textItem ts ++ portItems o) ++ rest))
+    → Yes (λ r. AuthorityWas (record { host = labels (t ∷ ts); port = o }) bs rest r) (labelsHost bs start at left (headAt bs at))
+unfolding labelsHost contents spans
+yes-labelsHost t ts o bs start at left rest g p n w =
+    yes-bind _ _ (yes-labelBody 0 t bs at _ (lit< tt) w (g .texts .each .0)) (λ mid x.
+    rw n (yes-bind _ _ (yes-names ts 1 o bs mid rest (omega (arith, within-high 1 8 (length (t ∷ ts)) (g .texts .count))) (g .texts .each .1) p (x .after)) (λ r y.
+    let c : r .count ≡ suc (length ts) = omega (arith, y .count) in
+    let cs : contents bs at (r .count) ≡ t ∷ ts =
+    ap (contents bs at) c ∙ ap₂ (λ (z : Bytes) (zs : List Bytes). z ∷ zs) (x .says) (ap (λ (m : ℕ). contents bs m (length ts)) (sym (x .ends)) ∙ y .says) in
+    yes-need _ _ _ _ (subst (λ (l : List Bytes). nameRule l ≡ true) (sym cs) (g .name))
+    (yes! (record { says = same-authority (ap labels cs) (y .port); after = y .after })))))
+
+pub wrote-array : (xs : List Bytes) (bs : Bytes) (at : ℕ) (rest : Bytes) → length xs < 2 ^ 64 → drop at bs ≡ arrayItem xs ++ rest → Wrote Array (length xs) bs at (concat xs ++ rest)
+unfolding arrayItem
+wrote-array xs bs at rest f e = wrote Array (length xs) bs at (concat xs ++ rest) f (e ∙ append-assoc (headBytes Array (length xs)) (concat xs) rest)
+
+port-items : (o : Option ℕ) → length (portItems o) ≤ 1
+unfolding portItems
+port-items none = omega arith
+port-items (some v) = omega arith
+
+pub address-size : (x : Bytes) → GoodAddress x → length x ≤ 16
+address-size x g =
+    by-test (λ b. (b || eqb (length x) 16) ≡ true → eqb (length x) 4 ≡ b → length x ≤ 16) (eqb (length x) 4)
+    (λ e k f. omega (arith, eqb-true (length x) 4 f)) (λ e k f. omega (arith, eqb-true (length x) 16 k)) (g .size) refl
+
+pub host-count : (h : Host Bytes) → GoodHost h → (1 ≤ length (hostItems h)) × (length (hostItems h) ≤ 8)
+unfolding hostItems
+host-count (address x) g = (lit≤ tt, lit≤ tt)
+host-count (labels ts) g =
+    (omega (arith, length-map ts textItem, within-low 1 8 (length ts) (g .texts .count)), omega (arith, length-map ts textItem, within-high 1 8 (length ts) (g .texts .count)))
+
+pub items-count : (a : Authority Bytes) → GoodAuthority a
+    → (1 ≤ length (hostItems (a .host) ++ portItems (a .port))) × (length (hostItems (a .host) ++ portItems (a .port)) ≤ 9)
+items-count a g =
+    let n = length-append (hostItems (a .host)) (portItems (a .port)) in
+    let c = host-count (a .host) (g .host) in
+    let p = port-items (a .port) in
+    (omega (arith, n, c .0), omega (arith, n, c .1, p))
+
+yes-inside : (h : Host Bytes) (o : Option ℕ) (bs : Bytes) (start at left : ℕ) (rest : Bytes) → GoodHost h → GoodPort o
+    → left ≡ length (hostItems h ++ portItems o) - 1 → drop at bs ≡ concat (hostItems h ++ portItems o) ++ rest
+    → Yes (λ r. AuthorityWas (record { host = h; port = o }) bs rest r)
+    (readHead (λ k. is ByteString k || is Text k) bs at >>= (λ f. if is Text (f .kind) then labelsHost bs start at left f else addressHost bs start at left f))
+unfolding hostItems codeOf
+yes-inside (address x) o bs start at left rest g p n e =
+    let w = wrote ByteString (length x) bs at (x ++ (concat (portItems o) ++ rest)) (omega (arith, address-size x g))
+    (first-item (headBytes ByteString (length x) ++ x) (portItems o) _ rest e ∙ append-assoc (headBytes ByteString (length x)) x (concat (portItems o) ++ rest)) in
+    yes-head _ _ _ _ (w .stands (λ k. is ByteString k || is Text k) refl)
+    (yes-else _ _ _ (subst (λ (k : Kind). not (is Text k) ≡ true) (sym (w .kind)) refl) (yes-addressHost x o bs start at left rest g p (omega (arith, n)) w))
+yes-inside (labels []) o bs start at left rest g p n e = never (g .texts .count)
+yes-inside (labels (t ∷ ts)) o bs start at left rest g p n e =
+    let others : List Bytes = map textItem ts ++ portItems o in
+    let w = wrote-text t bs at (concat others ++ rest) (label-64 t (g .texts .each .0)) (first-item (textItem t) others _ rest e) in
+    yes-head _ _ _ _ (w .stands (λ k. is ByteString k || is Text k) refl)
+    (yes-then _ _ _ (subst (λ (k : Kind). is Text k ≡ true) (sym (w .kind)) refl) (yes-labelsHost t ts o bs start at left rest g p (omega (arith, n)) w))
+
+pub yes-authority : (a : Authority Bytes) (bs : Bytes) (at : ℕ) (rest : Bytes) → GoodAuthority a → drop at bs ≡ authorityItem a ++ rest
+    → Yes (λ r. AuthorityWas a bs rest r) (readAuthority bs at)
+unfolding readAuthority authorityItem codeOf
+yes-authority a bs at rest g e =
+    let items : List Bytes = hostItems (a .host) ++ portItems (a .port) in
+    let c = items-count a g in
+    let w = wrote-array items bs at rest (omega (arith, c .1)) e in
+    let v : ℕ = headAt bs at .value in
+    yes-head _ _ _ _ (w .stands (is Array) refl)
+    (yes-need _ _ _ _ (is-within 1 9 v (omega (arith, c .0, w .value)) (omega (arith, c .1, w .value)))
+    (yes-inside (a .host) (a .port) bs at (headAt bs at .next) (headAt bs at .value - 1) rest (g .host) (g .port) (ap (λ (v : ℕ). v - 1) (w .value)) (w .rest)))
+
+-- ---- more bytes at the end
+
+nothing-stable : (p q : Bytes) (at left : ℕ) → Stable (readNothing p at left) (readNothing (p ++ q) at left)
+unfolding readNothing
+nothing-stable p q at zero = same!
+nothing-stable p q at (suc left) = stable-bind _ _ _ _ (head-stable _ p q at) (λ h. same!)
+
+portBody-stable : (p q : Bytes) (at left n : ℕ) (h : Head) → Stable (portBody p at left n h) (portBody (p ++ q) at left n h)
+unfolding portBody
+portBody-stable p q at left n h = stable-need _ _ _ _ _ (λ w. stable-bind _ _ _ _ (nothing-stable p q (h .next) left) (λ next. same!))
+
+port-stable : (p q : Bytes) (at left : ℕ) → Stable (readPort p at left) (readPort (p ++ q) at left)
+unfolding readPort
+port-stable p q at zero = same!
+port-stable p q at (suc left) = stable-bind _ _ _ _ (head-stable _ p q at) (λ h. portBody-stable p q at left 0 h)
+
+labelBody-stable : (n : ℕ) (p q : Bytes) (at : ℕ) (h : Head) → Stable (labelBody n p at h) (labelBody n (p ++ q) at h)
+unfolding labelBody
+labelBody-stable n p q at h = stable-need _ _ _ _ _ (λ w. textBody-stable label p q at h)
+
+names-stable : (p q : Bytes) (at left n : ℕ) → Stable (readNames p at left n) (readNames (p ++ q) at left n)
+unfolding readNames
+names-stable p q at zero n = same!
+names-stable p q at (suc left) n =
+    stable-bind _ _ _ _ (head-stable _ p q at) (λ h. stable-if _ _ _ _ _
+    (λ t. stable-bind _ _ _ _ (labelBody-stable n p q at h) (λ next. names-stable p q next left (suc n)))
+    (λ f. portBody-stable p q at left n h))
+
+labelsHost-stable : {allowed : Kind → Bool} (p q : Bytes) (start at left : ℕ) → Octets p → Stands allowed p at → kindAt p at ≡ Text
+    → Stable (labelsHost p start at left (headAt p at)) (labelsHost (p ++ q) start at left (headAt p at))
+unfolding labelsHost
+labelsHost-stable p q start at left sm r e =
+    stable-bind-ok _ _ _ _ (ok-labelBody 0 p at sm r e) (labelBody-stable 0 p q at (headAt p at)) (λ mid t.
+    stable-bind-ok _ _ _ _ (ok-names p mid left 1 sm) (names-stable p q mid left 1) (λ n y.
+    last-rule mid n t y))
+  where
+    last-rule : (mid : ℕ) (n : Names) → (0 < 8) × TextAt label p at mid → NamesAt p mid left 1 n
+        → Stable (need (nameRule (contents p at (n .count))) 6 start >> ok (record { at = start; host = labelsAt at (n .count); port = n .port; next = n .next }))
+        (_>>_ {B = AuthorityAt} (need (nameRule (contents (p ++ q) at (n .count))) 6 start) (ok (record { at = start; host = labelsAt at (n .count); port = n .port; next = n .next })))
+    last-rule mid n t y =
+        let y′ : NamesAt p (endAt p at) left 1 n = subst (λ (m : ℕ). NamesAt p m left 1 n) (t .1 .ends) y in
+        let c : n .count ≡ suc (y′ .more) = omega (arith, y′ .count) in
+        let e : contents (p ++ q) at (n .count) ≡ contents p at (n .count) =
+        ap (contents (p ++ q) at) c ∙ contents-more p q at (y′ .more) (t .1 .stands .inside) (y′ .stay q) ∙ ap (contents p at) (sym c) in
+        rw e same!
+
+addressHost-stable : (p q : Bytes) (start at left : ℕ) (h : Head) → Stable (addressHost p start at left h) (addressHost (p ++ q) start at left h)
+unfolding addressHost
+addressHost-stable p q start at left h =
+    stable-need _ _ _ _ _ (λ w. stable-bind _ _ _ _ (content-stable p q at h) (λ t.
+    stable-bind _ _ _ _ (port-stable p q (h .next + h .value) left) (λ r. same!)))
+
+pub authority-stable : (p q : Bytes) (at : ℕ) → Octets p → Stable (readAuthority p at) (readAuthority (p ++ q) at)
+unfolding readAuthority headAt
+authority-stable p q at sm =
+    stable-bind _ _ _ _ (head-stable _ p q at) (λ a. stable-need _ _ _ _ _ (λ w.
+    stable-bind-ok _ _ _ _ (head-ok _ p (a .next)) (head-stable _ p q (a .next)) (λ h r.
+    rw (r .0) (stable-if _ _ _ _ _
+    (λ t. labelsHost-stable p q at (a .next) (a .value - 1) sm (r .1) (is-kind Text _ t))
+    (λ f. addressHost-stable p q at (a .next) (a .value - 1) (headAt p (a .next)))))))

@@ -1,0 +1,283 @@
+-- The laws of the opening.
+use Prim.Native.Nat.{ℕ, zero, suc, _+_, _-_, _^_, _%_, _≤_, _<_}
+use native.Mathlib.Omega.{arith}
+use mathlib.Core.Path.{_≡_, refl, sym, ap, ap₂, _∙_, subst}
+use mathlib.Core.Bool.{Bool, true, false, not, _&&_, _||_, cond}
+use mathlib.Core.List.{List, [], _∷_, _++_, append-assoc, append-nil}
+use mathlib.Core.Option.{Option, none, some}
+use lib.ListN.{length, getD, drop}
+use lib.Dec.{leb, ltb, eqb, lit≤, lit<}
+use borrow.Author.Tests.{leb-true, le-leb, ltb-true, eqb-true, ne-eqb}
+use Rattle.rules.specs.Bytes.{Bytes, Octets, all, any, part, concat, bigEndian, numberFrom}
+use Rattle.rules.specs.Result.{Res, need, _>>=_, _>>_}
+use Rattle.rules.specs.Model.{Scheme, number, name, Authority, Opening, discard, discardAll, full}
+use Rattle.rules.specs.Head.{Kind, Number, Negative, ByteString, Text, Array, True, Null, Other, codeOf, Head, kindAt, headAt, headBytes, majorOf, shortest, width}
+use Rattle.rules.specs.Rules.{schemeName, SchemeEntry, schemes, knownScheme}
+use Rattle.rules.specs.Reader.{opens, taken, SchemeAt, noScheme, numberAt, nameAt, OpeningAt, discardAt, discardAllAt, fullAt, Opened, afterScheme, openingBody, readOpening}
+use Rattle.rules.specs.Encode.{authorityItem, schemeItem, orNull, trueItem, nullItem, withOpening, discardAlone}
+use Rattle.rules.specs.Valid.{If, GoodAuthority, GoodScheme, GoodOpening}
+use Rattle.rules.proofs.Tools.{never, by-test, and-left, and-right}
+use Rattle.rules.proofs.Steps.{Ok, no!, ok!, ok-bind, ok-need, Yes, yes!, yes-bind, yes-need, Stable, same!, stable-bind, stable-need}
+use Rattle.rules.proofs.Heads.{Stands, ok-head, yes-head, head-spells, next-inside, Wrote, wrote, head-stable, Lead, lead}
+use Rattle.rules.proofs.Texts.{ok-textBody, good-64, yes-textBody, wrote-text, textBody-stable}
+use Rattle.rules.proofs.Slots.{null-spells, wrote-null, one-item, item-one}
+use Rattle.rules.proofs.Authorities.{authorityOf, ok-authority, yes-authority, authority-stable, cons-spells, first-item}
+
+-- what positions say
+abbrev pub schemeOf : Bytes → SchemeAt → Option (Scheme Bytes)
+schemeOf bs noScheme = none
+schemeOf bs (numberAt n) = some (number n)
+schemeOf bs (nameAt at n) = some (name (taken bs (record { start = at; length = n })))
+
+abbrev pub openingOf : Bytes → OpeningAt → Opening Bytes
+openingOf bs (discardAt k) = discard k
+openingOf bs discardAllAt = discardAll
+openingOf bs (fullAt s a) = full (schemeOf bs s) (some (authorityOf bs a))
+
+-- an opening, where the array has so many items, of which so many are left after the opening
+pub data Opens : ℕ → Opening Bytes → ℕ → Type 0 where
+  empty : Opens 0 (discard 0) 0
+  alone : {k : ℕ} → Opens 1 (discard (suc k)) 0
+  before : {k left : ℕ} → left ≤ 2 → Opens (suc (suc left)) (discard k) (suc left)
+  all! : {left : ℕ} → left ≤ 3 → Opens (suc left) discardAll left
+  full! : {s : Option (Scheme Bytes)} {a : Authority Bytes} {left : ℕ} → left ≤ 3 → Opens (suc (suc left)) (full s (some a)) left
+
+-- the items of the opening, in an array of so many
+abbrev pub openItems : ℕ → Opening Bytes → List Bytes
+openItems zero o = []
+openItems (suc n) (discard k) = headBytes Number k ∷ []
+openItems (suc n) discardAll = trueItem ∷ []
+openItems (suc n) (full s none) = []
+openItems (suc n) (full s (some a)) = orNull schemeItem s ∷ authorityItem a ∷ []
+
+pub with-items : (n left : ℕ) (o : Opening Bytes) (xs : List Bytes) → Opens n o left → length xs ≡ left → (withOpening o xs ≡ openItems n o ++ xs) × (length (withOpening o xs) ≡ n)
+unfolding withOpening discardAlone
+with-items n left o [] empty e = (refl, refl)
+with-items n left o [] alone e = (refl, refl)
+with-items n left o [] (before h) e = absurd (omega arith)
+with-items n left o [] (all! h) e = (refl, omega arith)
+with-items n left o [] (full! h) e = (refl, omega arith)
+with-items n left o (x ∷ xs) empty e = absurd (omega arith)
+with-items n left o (x ∷ xs) alone e = absurd (omega arith)
+with-items n left o (x ∷ xs) (before h) e = (refl, omega arith)
+with-items n left o (x ∷ xs) (all! h) e = (refl, omega arith)
+with-items n left o (x ∷ xs) (full! h) e = (refl, omega arith)
+
+-- ---- an opening that is accepted
+
+pub record OpenedAt (bs : Bytes) (at n : ℕ) (o : Opened) : Type 0 where
+  pub spells : drop at bs ≡ concat (openItems n (openingOf bs (o .opening))) ++ drop (o .next) bs
+  pub opens : Opens n (openingOf bs (o .opening)) (o .left)
+  pub good : GoodOpening (openingOf bs (o .opening))
+  pub inside : at ≤ length bs → o .next ≤ length bs
+
+number-opens : (n v : ℕ) → leb (suc n) 4 ≡ true → not (eqb (suc n) 1 && eqb v 0) ≡ true → Opens (suc n) (discard v) (suc n - 1)
+number-opens zero zero a b = never b
+number-opens zero (suc v) a b = alone
+number-opens (suc n) v a b = subst (λ (l : ℕ). Opens (suc (suc n)) (discard v) l) (omega arith) (before (omega (arith, leb-true (suc (suc n)) 4 a)))
+
+true-value : (bs : Bytes) (at : ℕ) → kindAt bs at ≡ True → headAt bs at .value ≡ 21
+unfolding headAt
+true-value bs at e =
+    let b : getD bs at 0 ≡ 0xF5 = subst (λ (k : Kind). Lead k (getD bs at 0)) e (lead (getD bs at 0)) in
+    ap (λ (x : ℕ). cond (ltb (x % 32) 24) (x % 32) (numberFrom 0 (part bs (at + 1) (width (x % 32))))) b
+
+true-bytes : headBytes True 21 ≡ trueItem
+unfolding headBytes majorOf shortest width bigEndian
+true-bytes = refl
+
+ok-afterScheme : (bs : Bytes) (at n : ℕ) (s : SchemeAt) (next : ℕ) → Octets bs → n ≤ 4
+    → drop at bs ≡ orNull schemeItem (schemeOf bs s) ++ drop next bs → If GoodScheme (schemeOf bs s)
+    → Ok (λ o. OpenedAt bs at (suc n) o) (afterScheme bs at (suc n) s next)
+unfolding afterScheme
+ok-afterScheme bs at zero s next sm m e g = ok-need _ _ _ _ (λ w. never w)
+ok-afterScheme bs at (suc n) s next sm m e g =
+    ok-need _ _ _ _ (λ w. ok-bind _ _ (ok-authority bs next sm) (λ a q.
+    ok! (record {
+      spells = cons-spells (orNull schemeItem (schemeOf bs s)) (authorityItem (authorityOf bs a) ∷ []) _ _ (drop (a .next) bs) e (one-item (authorityItem (authorityOf bs a)) _ _ (q .spells));
+      opens = subst (λ (l : ℕ). Opens (suc (suc n)) (full (schemeOf bs s) (some (authorityOf bs a))) l) (two n) (full! (omega arith));
+      good = (g, q .good);
+      inside = λ i. q .inside;
+    })))
+  where
+    two : (n : ℕ) → n ≡ suc (suc n) - 2
+    two n = omega arith
+
+ok-openingBody : (k : Kind) (bs : Bytes) (at n : ℕ) → Octets bs → n ≤ 4 → Stands opens bs at → kindAt bs at ≡ k
+    → Ok (λ o. OpenedAt bs at (suc n) o) (openingBody bs at (suc n) (headAt bs at) k)
+unfolding openingBody orNull schemeItem
+ok-openingBody Number bs at n sm m r e =
+    ok-need _ _ _ _ (λ v. ok-need _ _ _ _ (λ c. ok-need _ _ _ _ (λ z.
+    ok! (record { spells = one-item (headBytes Number (headAt bs at .value)) _ _ (head-spells bs at sm r Number tt e); opens = number-opens n _ c z; good = leb-true _ _ v; inside = λ i. next-inside bs at r }))))
+ok-openingBody Negative bs at n sm m r e =
+    ok-need _ _ _ _ (λ v. ok-afterScheme bs at n (numberAt (headAt bs at .value)) (headAt bs at .next) sm m (head-spells bs at sm r Negative tt e) v)
+ok-openingBody ByteString bs at n sm m r e = no!
+ok-openingBody Text bs at n sm m r e =
+    ok-bind _ _ (ok-textBody schemeName bs at sm r e) (λ next t.
+    ok-afterScheme bs at n (nameAt (headAt bs at .next) (headAt bs at .value)) next sm m (t .spells) (t .good))
+ok-openingBody Array bs at n sm m r e = no!
+ok-openingBody True bs at n sm m r e =
+    ok-need _ _ _ _ (λ c.
+    ok! (record {
+      spells = one-item trueItem _ _ (head-spells bs at sm r True tt e ∙ ap (λ (x : Bytes). x ++ drop (headAt bs at .next) bs) (ap (headBytes True) (true-value bs at e) ∙ true-bytes));
+      opens = subst (λ (l : ℕ). Opens (suc n) discardAll l) (one n) (all! (omega (arith, leb-true (suc n) 4 c)));
+      good = tt;
+      inside = λ i. next-inside bs at r;
+    }))
+  where
+    one : (n : ℕ) → n ≡ suc n - 1
+    one n = omega arith
+ok-openingBody Null bs at n sm m r e =
+    ok-afterScheme bs at n noScheme (headAt bs at .next) sm m (null-spells bs at sm r e) tt
+ok-openingBody Other bs at n sm m r e = no!
+
+pub ok-opening : (bs : Bytes) (at n : ℕ) → Octets bs → n ≤ 5 → Ok (λ o. OpenedAt bs at n o) (readOpening bs at n)
+unfolding readOpening concat headAt
+ok-opening bs at zero sm m = ok! (record { spells = refl; opens = empty; good = lit≤ tt; inside = λ h. h })
+ok-opening bs at (suc n) sm m = ok-head _ _ _ _ (λ r. ok-openingBody (kindAt bs at) bs at n sm (omega arith) r refl)
+
+-- ---- an opening that was written is accepted
+
+pub record OpenedWas (o : Opening Bytes) (n : ℕ) (bs rest : Bytes) (r : Opened) : Type 0 where
+  pub says : openingOf bs (r .opening) ≡ o
+  pub left : r .left ≡ n
+  pub after : drop (r .next) bs ≡ rest
+
+no-first : (a b : Bool) → a ≡ false → not (a && b) ≡ true
+no-first a b e = rw e
+
+few : (k n left : ℕ) → Opens (suc n) (discard k) left → leb (suc n) 4 ≡ true
+few k n left alone = refl
+few k n left (before {left = l} h) = le-leb (suc (suc l)) 4 (omega arith)
+
+not-lone : (k n left : ℕ) → Opens (suc n) (discard k) left → not (eqb (suc n) 1 && eqb k 0) ≡ true
+not-lone k n left (alone {k = j}) = ap not (ne-eqb (suc j) 0 (omega arith))
+not-lone k n left (before {left = l} h) = no-first (eqb (suc (suc l)) 1) (eqb k 0) (ne-eqb (suc (suc l)) 1 (omega arith))
+
+rest-left : (k n left : ℕ) → Opens (suc n) (discard k) left → suc n - 1 ≡ left
+rest-left k n left alone = refl
+rest-left k n left (before h) = omega arith
+
+yes-number : (k n left : ℕ) (bs : Bytes) (at : ℕ) (rest : Bytes) → k ≤ 127 → Opens (suc n) (discard k) left → Wrote Number k bs at rest
+    → Yes (λ r. OpenedWas (discard k) left bs rest r) (openingBody bs at (suc n) (headAt bs at) Number)
+unfolding openingBody
+yes-number k n left bs at rest g o w =
+    yes-need _ _ _ _ (subst (λ (v : ℕ). leb v 127 ≡ true) (sym (w .value)) (le-leb k 127 g))
+    (yes-need _ _ _ _ (few k n left o)
+    (yes-need _ _ _ _ (subst (λ (v : ℕ). not (eqb (suc n) 1 && eqb v 0) ≡ true) (sym (w .value)) (not-lone k n left o))
+    (yes! (record { says = ap discard (w .value); left = rest-left k n left o; after = w .rest }))))
+
+yes-afterScheme : (o : Option (Scheme Bytes)) (a : Authority Bytes) (left : ℕ) (bs : Bytes) (at : ℕ) (s : SchemeAt) (next : ℕ) (rest : Bytes) → GoodAuthority a
+    → schemeOf bs s ≡ o → drop next bs ≡ authorityItem a ++ rest
+    → Yes (λ r. OpenedWas (full o (some a)) left bs rest r) (afterScheme bs at (suc (suc left)) s next)
+unfolding afterScheme
+yes-afterScheme o a left bs at s next rest g es e =
+    yes-need _ _ _ _ (le-leb 2 (suc (suc left)) (omega arith))
+    (yes-bind _ _ (yes-authority a bs next rest g e) (λ r q.
+    yes! (record { says = ap₂ full es (ap some (q .says)); left = omega arith; after = q .after })))
+
+-- an opening item of this kind was written
+yes-kind : {P : Opened → Type 0} (k : Kind) (v : ℕ) (bs : Bytes) (at n : ℕ) (rest : Bytes) → opens k ≡ true → Wrote k v bs at rest
+    → Yes P (openingBody bs at (suc n) (headAt bs at) k) → Yes P (readOpening bs at (suc n))
+unfolding readOpening
+yes-kind {P} k v bs at n rest t w y =
+    yes-head _ _ _ _ (w .stands opens t) (subst (λ (x : Kind). Yes P (openingBody bs at (suc n) (headAt bs at) x)) (sym (w .kind)) y)
+
+-- a fact of each number of the table is a fact of each known scheme
+pub of-schemes : (p : ℕ → Bool) (es : List SchemeEntry) → all (λ (e : SchemeEntry). p (e .number)) es ≡ true
+    → (n : ℕ) → any (λ (e : SchemeEntry). eqb n (e .number)) es ≡ true → p n ≡ true
+unfolding any all
+of-schemes p [] a n k = never k
+of-schemes p (e ∷ es) a n k =
+    by-test (λ t. (t || any (λ (e : SchemeEntry). eqb n (e .number)) es) ≡ true → p n ≡ true) (eqb n (e .number))
+    (λ d k. rw (eqb-true n (e .number) d) (and-left (p (e .number)) _ a)) (λ d k. of-schemes p es (and-right (p (e .number)) _ a) n k) k
+
+pub known-below : (n : ℕ) → knownScheme n ≡ true → n < 256
+unfolding knownScheme schemes all
+known-below n g = ltb-true n 256 (of-schemes (λ n. ltb n 256) schemes refl n g)
+
+yes-scheme : (o : Option (Scheme Bytes)) (a : Authority Bytes) (left : ℕ) (bs : Bytes) (at : ℕ) (rest : Bytes) → If GoodScheme o → GoodAuthority a
+    → drop at bs ≡ orNull schemeItem o ++ (authorityItem a ++ rest)
+    → Yes (λ r. OpenedWas (full o (some a)) left bs rest r) (readOpening bs at (suc (suc left)))
+unfolding orNull schemeItem openingBody codeOf
+yes-scheme none a left bs at rest g ga e =
+    let w = wrote-null bs at (authorityItem a ++ rest) e in
+    yes-kind Null 22 bs at (suc left) _ refl w (yes-afterScheme none a left bs at noScheme (headAt bs at .next) rest ga refl (w .rest))
+yes-scheme (some (number n)) a left bs at rest g ga e =
+    let w = wrote Negative n bs at (authorityItem a ++ rest) (omega (arith, known-below n g)) e in
+    yes-kind Negative n bs at (suc left) _ refl w
+    (yes-need _ _ _ _ (subst (λ (v : ℕ). knownScheme v ≡ true) (sym (w .value)) g)
+    (yes-afterScheme (some (number n)) a left bs at (numberAt (headAt bs at .value)) (headAt bs at .next) rest ga (ap (λ (v : ℕ). some (number v)) (w .value)) (w .rest)))
+yes-scheme (some (name t)) a left bs at rest g ga e =
+    let w = wrote-text t bs at (authorityItem a ++ rest) (good-64 {s = schemeName} (lit< tt) t g) e in
+    yes-kind Text (length t) bs at (suc left) _ refl w
+    (yes-bind _ _ (yes-textBody schemeName t bs at (authorityItem a ++ rest) w g) (λ next x.
+    yes-afterScheme (some (name t)) a left bs at (nameAt (headAt bs at .next) (headAt bs at .value)) next rest ga (ap (λ (z : Bytes). some (name z)) (x .says)) (x .after)))
+
+wrote-true : (bs : Bytes) (at : ℕ) (rest : Bytes) → drop at bs ≡ trueItem ++ rest → Wrote True 21 bs at rest
+wrote-true bs at rest e = wrote True 21 bs at rest refl (e ∙ ap (λ (x : Bytes). x ++ rest) (sym true-bytes))
+
+pub yes-opening : (n left : ℕ) (o : Opening Bytes) (bs : Bytes) (at : ℕ) (rest : Bytes) → Opens n o left → GoodOpening o → drop at bs ≡ concat (openItems n o) ++ rest
+    → Yes (λ r. OpenedWas o left bs rest r) (readOpening bs at n)
+unfolding readOpening codeOf openingBody concat
+yes-opening n left o bs at rest empty g e = yes! (record { says = refl; left = refl; after = e })
+yes-opening n left o bs at rest (alone {k = k}) g e =
+    let w = wrote Number (suc k) bs at rest (omega arith) (item-one (headBytes Number (suc k)) _ _ e) in
+    yes-kind Number (suc k) bs at 0 rest refl w (yes-number (suc k) 0 0 bs at rest g alone w)
+yes-opening n left o bs at rest (before {k = k} {left = l} h) g e =
+    let w = wrote Number k bs at rest (omega arith) (item-one (headBytes Number k) _ _ e) in
+    yes-kind Number k bs at (suc l) rest refl w (yes-number k (suc l) (suc l) bs at rest g (before h) w)
+yes-opening n left o bs at rest (all! {left = l} h) g e =
+    let w = wrote-true bs at rest (item-one trueItem _ _ e) in
+    yes-kind True 21 bs at l rest refl w
+    (yes-need _ _ _ _ (le-leb (suc l) 4 (omega arith)) (yes! (record { says = refl; left = omega arith; after = w .rest })))
+yes-opening n left o bs at rest (full! {s = s} {a = a} {left = l} h) g e =
+    yes-scheme s a l bs at rest (g .0) (g .1)
+    (first-item (orNull schemeItem s) (authorityItem a ∷ []) _ rest e ∙ ap (λ (x : Bytes). orNull schemeItem s ++ (x ++ rest)) (append-nil (authorityItem a)))
+
+-- ---- more bytes at the end
+
+afterScheme-stable : (p q : Bytes) (at n : ℕ) (s : SchemeAt) (next : ℕ) → Octets p → Stable (afterScheme p at n s next) (afterScheme (p ++ q) at n s next)
+unfolding afterScheme
+afterScheme-stable p q at n s next sm = stable-need _ _ _ _ _ (λ w. stable-bind _ _ _ _ (authority-stable p q next sm) (λ a. same!))
+
+openingBody-stable : (k : Kind) (p q : Bytes) (at n : ℕ) (h : Head) → Octets p → Stable (openingBody p at n h k) (openingBody (p ++ q) at n h k)
+unfolding openingBody
+openingBody-stable Number p q at n h sm = same!
+openingBody-stable Negative p q at n h sm = stable-need _ _ _ _ _ (λ w. afterScheme-stable p q at n _ _ sm)
+openingBody-stable ByteString p q at n h sm = same!
+openingBody-stable Text p q at n h sm = stable-bind _ _ _ _ (textBody-stable schemeName p q at h) (λ next. afterScheme-stable p q at n _ next sm)
+openingBody-stable Array p q at n h sm = same!
+openingBody-stable True p q at n h sm = same!
+openingBody-stable Null p q at n h sm = afterScheme-stable p q at n _ _ sm
+openingBody-stable Other p q at n h sm = same!
+
+pub opening-stable : (p q : Bytes) (at n : ℕ) → Octets p → Stable (readOpening p at n) (readOpening (p ++ q) at n)
+unfolding readOpening
+opening-stable p q at zero sm = same!
+opening-stable p q at (suc n) sm = stable-bind _ _ _ _ (head-stable _ p q at) (λ h. openingBody-stable (h .kind) p q at (suc n) h sm)
+
+-- ---- how many items there are
+
+pub opens-left : {n left : ℕ} {o : Opening Bytes} → Opens n o left → left ≤ 3
+opens-left empty = lit≤ tt
+opens-left alone = lit≤ tt
+opens-left (before h) = omega arith
+opens-left (all! h) = h
+opens-left (full! h) = h
+
+pub opens-count : {n left : ℕ} {o : Opening Bytes} → Opens n o left → n ≤ 5
+opens-count empty = lit≤ tt
+opens-count alone = lit≤ tt
+opens-count (before h) = omega arith
+opens-count (all! h) = omega arith
+opens-count (full! h) = omega arith
+
+pub opens-of : (o : Opening Bytes) (xs : List Bytes) → GoodOpening o → length xs ≤ 3 → Opens (length (withOpening o xs)) o (length xs)
+unfolding withOpening discardAlone
+opens-of (discard zero) [] g h = empty
+opens-of (discard (suc k)) [] g h = alone
+opens-of (discard k) (x ∷ xs) g h = before {left = length xs} (omega arith)
+opens-of discardAll xs g h = all! h
+opens-of (full s none) xs g h = absurd g
+opens-of (full s (some a)) xs g h = full! h

@@ -1,0 +1,113 @@
+-- Each promise of specs/Promises.antt, proved.
+use Prim.Native.Nat.{ℕ, _+_, _*_, _≤_, _<_}
+use native.Mathlib.Omega.{arith}
+use mathlib.Core.Logic.{_↔_}
+use mathlib.Core.Path.{_≡_, refl, sym, ap, _∙_}
+use mathlib.Core.Bool.{Bool, true, false, cond}
+use mathlib.Core.List.{List, [], _∷_, _++_}
+use lib.ListN.{length, take, drop}
+use lib.Seq.{take-at}
+use lib.Dec.{ltb}
+use borrow.Author.Tests.{le-ltb}
+use Rattle.rules.specs.Bytes.{Bytes, Octets}
+use Rattle.rules.specs.Result.{Res, refused, ok, need, _>>_, _>>=_}
+use Rattle.rules.specs.Model.{Reference, Limits, Cri, reference, Same}
+use Rattle.rules.specs.Meaning.{readReference, readAbsolute}
+use Rattle.rules.specs.Encode.{encode}
+use Rattle.rules.specs.Resolve.{resolve, fits, resolved}
+use Rattle.rules.specs.Text.{uriText}
+use Rattle.rules.specs.Calls.{Ruling, refuse, write, ruling, Done, outcome, after, printed, textCall, resolveCall}
+use Rattle.rules.specs.Cases.{starred, unstarred, slips, requests, addresses}
+use Rattle.rules.specs.Promises as P
+use Rattle.rules.specs.Promises.{done, shown, Texts, Resolved}
+use Rattle.rules.proofs.Steps.{ok-at, bind-ok}
+use Rattle.rules.proofs.Reading.{canonical, complete, prefix-refused, prefix-accepted}
+use Rattle.rules.proofs.Encoding.{encode-octets}
+use Rattle.rules.proofs.Absolutes.{GoodCri, good-read, fits-valid, fits-read}
+use Rattle.rules.proofs.TextBack.{text-same}
+use Rattle.rules.proofs.TextBound.{read-bound}
+use Rattle.rules.proofs.Resolving.{good-resolve, resolved-is, resolve-nothing, resolve-empty}
+use Rattle.rules.proofs.Compute.{computed}
+
+pub canonical-proved : P.Canonical
+canonical-proved lim bs r h e = ok-at (canonical lim bs h) e
+
+pub complete-proved : P.Complete
+complete-proved lim small r v = (encode-octets lim small r v, complete lim small r v)
+
+pub prefix-proved : P.Prefix
+prefix-proved lim p q h size n k d e = prefix-refused lim p q h size n k d e
+
+pub tail-proved : P.Tail
+tail-proved lim p b q h size f e = prefix-accepted lim p b q h size f e
+
+-- ---- the URI text call on an accepted absolute input
+
+text-ruling : (lim : Limits) (bs : Bytes) (c : Cri) → readAbsolute lim bs ≡ ok c → textCall lim bs ≡ write (uriText c)
+unfolding textCall printed
+text-ruling lim bs c e = ap ruling (sym (bind-ok (readAbsolute lim bs) (λ c. ok (uriText c)) c (sym e)))
+
+-- with room enough, what is written is written whole
+pub enough : (u : Ruling) (w : Bytes) (n : ℕ) → u ≡ write w → length w ≤ n → outcome u n ≡ done (length w)
+unfolding outcome
+enough u w n e h = rw (e, le-ltb n (length w) h)
+
+pub shown-enough : (u : Ruling) (w room : Bytes) → u ≡ write w → length w ≤ length room → shown u room ≡ w
+unfolding outcome after
+shown-enough u w room e h = rw (e, le-ltb (length room) (length w) h) (take-at w (drop (length w) room) (length w) refl)
+
+pub demand3-proved : P.Demand3
+demand3-proved lim a b c d ha hb ea eb x y hx hy =
+    let u = text-ruling lim a c ea in
+    let v = text-ruling lim b d eb in
+    let m = enough (textCall lim a) (uriText c) (length x) u hx in
+    let n = enough (textCall lim b) (uriText d) (length y) v hy in
+    let s = shown-enough (textCall lim a) (uriText c) x u hx in
+    let t = shown-enough (textCall lim b) (uriText d) y v hy in
+    let same = text-same c d (good-read lim a c ha ea) (good-read lim b d hb eb) in
+    record {
+      first = m;
+      second = n;
+      firstText = s;
+      secondText = t;
+      same = (
+        λ e. same .0 (sym s ∙ e .1 ∙ t),
+        λ e. (ap (λ (r : Done). r .length) m ∙ ap length (same .1 e) ∙ sym (ap (λ (r : Done). r .length) n), s ∙ same .1 e ∙ sym t),
+      );
+    }
+
+pub bound-proved : P.Bound
+bound-proved lim bs c h e =
+    let l : length (uriText c) ≤ 3 * length bs + 13 = read-bound lim bs c h e in
+    (l, λ n k. enough (textCall lim bs) (uriText c) n (text-ruling lim bs c e) (omega arith))
+
+-- ---- resolving
+
+pub resolving-proved : P.Resolving
+unfolding resolveCall need _>>_
+resolving-proved lim small base ref b r hb hr eb er =
+    let c : Cri = resolve b r in
+    let g : GoodCri c = good-resolve lim b r (good-read lim base b hb eb) (ok-at (canonical lim ref hr) er .1) in
+    let is = resolved-is lim base ref b r eb er in
+    record {
+      written = λ e. ap ruling (is ∙ ap (λ (t : Bool). need t 9 0 >> ok (encode (reference c))) e);
+      valid = fits-valid lim c g;
+      again = fits-read lim small c g;
+      refusal = λ e. ap ruling (is ∙ ap (λ (t : Bool). need t 9 0 >> ok (encode (reference c))) e);
+    }
+
+pub nothing-proved : P.Nothing
+nothing-proved = resolve-nothing
+
+pub empty-path-proved : P.EmptyPath
+empty-path-proved = resolve-empty
+
+-- ---- worked examples
+
+pub starred-proved : P.Starred
+unfolding computed starred
+starred-proved = refl
+
+pub examples-proved : P.Examples
+unfolding computed unstarred slips requests addresses
+examples-proved = record { rows = refl; slipped = refl; options = refl; ipv6 = refl }

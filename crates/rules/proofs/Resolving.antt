@@ -1,0 +1,112 @@
+-- The laws of resolving: each step keeps the rules, so the result of what was read is valid where it fits.
+use Prim.Native.Nat.{ℕ, zero, suc, _-_, _<_, _^_}
+use mathlib.Core.Path.{_≡_, refl, sym, ap, _∙_}
+use mathlib.Core.Bool.{Bool, true, false}
+use mathlib.Core.List.{List, [], _∷_, _++_, append-nil}
+use mathlib.Core.Option.{Option, none, some}
+use lib.ListN.{length, take}
+use Rattle.rules.specs.Bytes.{Bytes, Each}
+use Rattle.rules.specs.Result.{Res, refused, ok, need, _>>=_, _>>_, RESULT}
+use Rattle.rules.specs.Model.{Scheme, Authority, Opening, discard, discardAll, full, Reference, Limits, Cri, reference, normalPath, normal}
+use Rattle.rules.specs.Rules.{segment, parameter, fragmentText}
+use Rattle.rules.specs.Meaning.{readReference, readAbsolute}
+use Rattle.rules.specs.Encode.{encode}
+use Rattle.rules.specs.Valid.{If, Good, GoodTexts, GoodAuthority, GoodScheme, GoodOpening, Valid}
+use Rattle.rules.specs.Resolve.{start, cleared, discarded, appended, orElse, or, unlessSet, schemeOf, authorityOf, copied, resolve, asBase, fits, resolved}
+use Rattle.rules.proofs.Tools.{each-append, each-take}
+use Rattle.rules.proofs.Absolutes.{GoodCri}
+
+-- ---- references that change nothing but the fragment, or that set an empty path
+
+normal-twice : (ts : List Bytes) → normalPath (normalPath ts) ≡ normalPath ts
+unfolding normalPath
+normal-twice [] = refl
+normal-twice ([] ∷ []) = refl
+normal-twice ([] ∷ (u ∷ ts)) = refl
+normal-twice ((b ∷ t) ∷ ts) = refl
+
+pub resolve-nothing : (b : Cri) → resolve b (record { opening = discard 0; path = none; query = none; fragment = none })
+    ≡ record { scheme = b .scheme; authority = b .authority; path = normalPath (b .path); query = b .query; fragment = none }
+unfolding resolve start discarded appended copied normal
+resolve-nothing b = rw (normal-twice (b .path))
+
+pub resolve-empty : (b : Cri) → resolve b (record { opening = discard 0; path = some []; query = none; fragment = none }) ≡ cleared b (normalPath (b .path))
+unfolding resolve start discarded appended copied normal
+resolve-empty b = rw (append-nil (normalPath (b .path)), normal-twice (b .path))
+
+-- ---- each step keeps the rules
+
+normal-each : (P : Bytes → Type 0) (ts : List Bytes) → Each P ts → Each P (normalPath ts)
+unfolding normalPath
+normal-each P [] h = tt
+normal-each P ([] ∷ []) h = tt
+normal-each P ([] ∷ (u ∷ ts)) h = h
+normal-each P ((b ∷ t) ∷ ts) h = h
+
+good-start : (c : Cri) → GoodCri c → GoodCri (start c)
+unfolding start
+good-start c g = record { scheme = g .scheme; authority = g .authority; path = normal-each (Good segment) (c .path) (g .path); query = g .query; fragment = tt }
+
+good-cleared : (c : Cri) (p : List Bytes) → GoodCri c → Each (Good segment) p → GoodCri (cleared c p)
+good-cleared c p g h = record { scheme = g .scheme; authority = g .authority; path = h; query = tt; fragment = tt }
+
+good-discarded : (o : Opening Bytes) (c : Cri) → GoodCri c → GoodCri (discarded o c)
+unfolding discarded
+good-discarded (discard zero) c g = g
+good-discarded (discard (suc k)) c g = good-cleared c _ g (each-take _ (length (c .path) - suc k) (c .path) (g .path))
+good-discarded discardAll c g = good-cleared c [] g tt
+good-discarded (full s a) c g = good-cleared c [] g tt
+
+good-appended : (n : ℕ) (p : Option (List Bytes)) (c : Cri) → If (GoodTexts segment 0 n) p → GoodCri c → GoodCri (appended p c)
+unfolding appended
+good-appended n none c h g = g
+good-appended n (some ts) c h g = good-cleared c _ g (each-append _ (c .path) ts (g .path) (h .each))
+
+opening-scheme : (o : Opening Bytes) (s : Scheme Bytes) → GoodOpening o → GoodScheme s → GoodScheme (orElse s (schemeOf o))
+opening-scheme (discard k) s h g = g
+opening-scheme discardAll s h g = g
+opening-scheme (full none none) s h g = g
+opening-scheme (full none (some a)) s h g = g
+opening-scheme (full (some t) none) s h g = absurd h
+opening-scheme (full (some t) (some a)) s h g = h .0
+
+opening-authority : (o : Opening Bytes) (a : Authority Bytes) → GoodOpening o → GoodAuthority a → GoodAuthority (orElse a (authorityOf o))
+opening-authority (discard k) a h g = g
+opening-authority discardAll a h g = g
+opening-authority (full s none) a h g = g
+opening-authority (full s (some b)) a h g = h .1
+
+good-or : {A : Type 0} (P : A → Type 0) (a b : Option A) → If P a → If P b → If P (or a b)
+good-or P none b h g = g
+good-or P (some a) b h g = h
+
+good-unless : {A B : Type 0} (P : B → Type 0) (a : Option A) (b : Option B) → If P b → If P (unlessSet a b)
+good-unless P none b g = g
+good-unless P (some a) b g = tt
+
+good-copied : (lim : Limits) (r : Reference) (c : Cri) → Valid lim r → GoodCri c → GoodCri (copied r c)
+unfolding copied
+good-copied lim r c v g =
+    record {
+      scheme = opening-scheme (r .opening) (c .scheme) (v .opening) (g .scheme);
+      authority = opening-authority (r .opening) (c .authority) (v .opening) (g .authority);
+      path = g .path;
+      query = good-or (GoodTexts parameter 1 16) (r .query) (c .query) (v .query) (g .query);
+      fragment = good-or (Good fragmentText) (r .fragment) (unlessSet (r .query) (c .fragment)) (v .fragment) (good-unless (Good fragmentText) (r .query) (c .fragment) (g .fragment));
+    }
+
+good-normal : (c : Cri) → GoodCri c → GoodCri (normal c)
+unfolding normal
+good-normal c g = record { scheme = g .scheme; authority = g .authority; path = normal-each (Good segment) (c .path) (g .path); query = g .query; fragment = g .fragment }
+
+pub good-resolve : (lim : Limits) (b : Cri) (r : Reference) → GoodCri b → Valid lim r → GoodCri (resolve b r)
+unfolding resolve
+good-resolve lim b r g v =
+    good-normal _ (good-copied lim r _ v (good-appended (lim .segments) (r .path) _ (v .path) (good-discarded (r .opening) _ (good-start b g))))
+
+-- ---- the refusals of a resolved CRI
+
+pub resolved-is : (lim : Limits) (base ref : Bytes) (b : Cri) (r : Reference) → readAbsolute lim base ≡ ok b → readReference lim ref ≡ ok r
+    → resolved lim base ref ≡ (need (fits lim (resolve b r)) RESULT 0 >> ok (encode (reference (resolve b r))))
+unfolding resolved _>>=_
+resolved-is lim base ref b r e f = rw (e, f)

@@ -1,0 +1,158 @@
+-- The bound: the text of an absolute input of n bytes has at most 3n + 13 bytes, for any limits.
+use Prim.Native.Nat.{ℕ, zero, suc, _+_, _-_, _*_, _≤_, _<_}
+use native.Mathlib.Omega.{arith}
+use mathlib.Core.Path.{_≡_, refl, sym, ap, _∙_, subst}
+use mathlib.Core.Bool.{Bool, true, false, cond, _||_}
+use mathlib.Core.Option.{Option, none, some, Option·map}
+use mathlib.Core.List.{List, [], _∷_, _++_, map}
+use lib.ListN.{length, length-append}
+use lib.Dec.{leb, ltb, eqb}
+use borrow.Author.Tests.{eqb-true, leb-true, ltb-true, ltb-false}
+use Rattle.rules.specs.Bytes.{Bytes, Octets, dot, colon, slash, question, hash, ampersand, all, concat, join}
+use Rattle.rules.specs.Result.{ok}
+use Rattle.rules.specs.Model.{Scheme, number, name, Host, address, labels, Authority, full, Reference, Limits, Cri, segments}
+use Rattle.rules.specs.Rules.{schemes, schemeIn, knownScheme}
+use Rattle.rules.specs.Head.{Number, Negative, ByteString, Text, Array, headBytes}
+use Rattle.rules.specs.Meaning.{readAbsolute}
+use Rattle.rules.specs.Encode.{textItem, arrayItem, textsItem, orNull, tailItems, portItems, hostItems, authorityItem, schemeItem, withOpening, encode}
+use Rattle.rules.specs.Valid.{GoodAddress, GoodHost, GoodScheme}
+use Rattle.rules.specs.Numeral.{decimal}
+use Rattle.rules.specs.Address.{ipv4Text, ipv6Text, leftBracket, rightBracket, addressText}
+use Rattle.rules.specs.Text.{Class, Label, Segment, Parameter, Fragment, escape, marked, entryName, schemeText, hostText, authorityText, pathText, queryText, hierarchyText, uriText}
+use Rattle.rules.proofs.Tools.{by-test, concat-append}
+use Rattle.rules.proofs.Steps.{ok-at}
+use Rattle.rules.proofs.Heads.{head-some, head-two}
+use Rattle.rules.proofs.Openings.{of-schemes}
+use Rattle.rules.proofs.Reading.{canonical}
+use Rattle.rules.proofs.Absolutes.{Absolute, ReadAs, read-as, GoodCri, good-read}
+use Rattle.rules.proofs.Escapes.{escape-length}
+use Rattle.rules.proofs.Numerals.{decimal-length, decimal-two, decimal-three}
+use Rattle.rules.proofs.Addresses.{ipv6-length}
+
+-- ---- items
+
+text-length : (t : Bytes) → length t + 1 ≤ length (textItem t)
+unfolding textItem
+text-length t = rw (length-append (headBytes Text (length t)) t) (omega (arith, head-some Text (length t)))
+
+bytes-length : (t : Bytes) → length t + 1 ≤ length (headBytes ByteString (length t) ++ t)
+bytes-length t = rw (length-append (headBytes ByteString (length t)) t) (omega (arith, head-some ByteString (length t)))
+
+array-length : (xs : List Bytes) → length (concat xs) + 1 ≤ length (arrayItem xs)
+unfolding arrayItem
+array-length xs = rw (length-append (headBytes Array (length xs)) (concat xs)) (omega (arith, head-some Array (length xs)))
+
+join-length : (k : Class) (d : ℕ) (ps : List Bytes) → length (join d (map (escape k) ps)) ≤ 3 * length (concat (map textItem ps))
+unfolding join concat
+join-length k d [] = omega arith
+join-length k d (p ∷ []) = simp length-append (omega (arith, escape-length k p, text-length p))
+join-length k d (p ∷ q ∷ ps) =
+    let ih : length (join d (map (escape k) (q ∷ ps))) ≤ 3 * length (concat (map textItem (q ∷ ps))) = join-length k d (q ∷ ps) in
+    rw (length-append (escape k p) (d ∷ join d (map (escape k) (q ∷ ps))), length-append (textItem p) (concat (map textItem (q ∷ ps))))
+    (omega (arith, escape-length k p, text-length p))
+
+-- ---- scheme, host and port
+
+scheme-length : (s : Scheme Bytes) → GoodScheme s → length (schemeText s) ≤ 3 * length (schemeItem s) + 6
+unfolding schemeText schemeItem schemeIn schemes knownScheme all
+scheme-length (number n) h =
+    let l : length (entryName (schemeIn schemes n)) ≤ 9 = leb-true _ _ (of-schemes (λ n. leb (length (entryName (schemeIn schemes n))) 9) schemes refl n h) in
+    omega (arith, head-some Negative n)
+scheme-length (name t) h = omega (arith, text-length t)
+
+ipv4-length : (bs : Bytes) → Octets bs → length (join dot (map decimal bs)) ≤ 4 * length bs - 1
+unfolding join
+ipv4-length [] h = omega arith
+ipv4-length (b ∷ []) h = omega (arith, decimal-three b (h .0))
+ipv4-length (b ∷ a ∷ bs) h =
+    rw (length-append (decimal b) (dot ∷ join dot (map decimal (a ∷ bs)))) (omega (arith, decimal-three b (h .0), ipv4-length (a ∷ bs) (h .1)))
+
+address-length : (bs : Bytes) → GoodAddress bs → length (addressText bs) ≤ 3 * (length bs + 1)
+unfolding addressText ipv4Text
+address-length bs h =
+    by-test (λ t. ((t || eqb (length bs) 16) ≡ true) → length (cond t (join dot (map decimal bs)) (leftBracket ∷ (ipv6Text bs ++ (rightBracket ∷ [])))) ≤ 3 * (length bs + 1))
+    (eqb (length bs) 4)
+    (λ e z. let f : length bs ≡ 4 = eqb-true _ _ e in omega (arith, ipv4-length bs (h .octets)))
+    (λ e z. let s : length bs ≡ 16 = eqb-true _ _ z in rw (length-append (ipv6Text bs) (rightBracket ∷ [])) (omega (arith, ipv6-length bs s)))
+    (h .size)
+
+host-length : (h : Host Bytes) → GoodHost h → length (hostText h) ≤ 3 * length (concat (hostItems h))
+unfolding hostText hostItems concat
+host-length (labels ls) h = join-length Label dot ls
+host-length (address bs) h =
+    rw (length-append (headBytes ByteString (length bs) ++ bs) []) (omega (arith, bytes-length bs, address-length bs h))
+
+port-length : (p : Option ℕ) → length (marked colon (Option·map decimal p)) ≤ 3 * length (concat (portItems p))
+unfolding marked portItems concat
+port-length none = omega arith
+port-length (some n) =
+    rw (length-append (headBytes Number n) [])
+    (by-test (λ t. (ltb n 24 ≡ t) → suc (length (decimal n)) ≤ 3 * (length (headBytes Number n) + 0)) (ltb n 24)
+    (λ e k. omega (arith, decimal-two n (ltb-true n 24 e), head-some Number n))
+    (λ e k. omega (arith, decimal-length n, head-two Number n (ltb-false n 24 e))) refl)
+
+authority-length : (a : Authority Bytes) → GoodHost (a .host) → length (authorityText a) + 3 ≤ 3 * length (authorityItem a)
+unfolding authorityText authorityItem
+authority-length a g =
+    let H : List Bytes = hostItems (a .host) in
+    let P : List Bytes = portItems (a .port) in
+    let n : length (concat (H ++ P)) ≡ length (concat H) + length (concat P) = ap length (concat-append H P) ∙ length-append (concat H) (concat P) in
+    rw (length-append (hostText (a .host)) (marked colon (Option·map decimal (a .port))))
+    (omega (arith, array-length (H ++ P), host-length (a .host) g, port-length (a .port)))
+
+-- ---- path, query and fragment together
+
+texts-length : (k : Class) (d : ℕ) (ps : List Bytes) → length (join d (map (escape k) ps)) + 3 ≤ 3 * length (textsItem ps)
+unfolding textsItem
+texts-length k d ps = omega (arith, join-length k d ps, array-length (map textItem ps))
+
+path-length : (p : Option (List Bytes)) → length (pathText (segments p)) ≤ 3 * length (orNull textsItem p)
+unfolding pathText orNull join
+path-length none = omega arith
+path-length (some ps) = omega (arith, texts-length Segment slash ps)
+
+query-length : (q : Option (List Bytes)) → length (marked question (Option·map queryText q)) ≤ 3 * length (orNull textsItem q)
+unfolding marked queryText orNull
+query-length none = omega arith
+query-length (some ps) = omega (arith, texts-length Parameter ampersand ps)
+
+abbrev rest : Option (List Bytes) → Option (List Bytes) → Option Bytes → ℕ
+rest p q f = length (pathText (segments p)) + length (marked question (Option·map queryText q)) + length (marked hash (Option·map (escape Fragment) f))
+
+path-none : length (pathText []) ≡ 0
+unfolding pathText join
+path-none = refl
+
+tail-length : (p q : Option (List Bytes)) (f : Option Bytes) → rest p q f ≤ 3 * length (concat (tailItems p q f))
+unfolding tailItems marked concat orNull
+tail-length p q (some f) = simp length-append (omega (arith, path-length p, query-length q, escape-length Fragment f, text-length f))
+tail-length p (some q) none = simp length-append (omega (arith, path-length p, query-length (some q)))
+tail-length (some p) none none = simp length-append (omega (arith, path-length (some p)))
+tail-length none none none = omega (arith, path-none)
+
+-- ---- the whole
+
+encode-length : (s : Scheme Bytes) (a : Authority Bytes) (xs : List Bytes)
+    → length (schemeItem s) + length (authorityItem a) + length (concat xs) + 1 ≤ length (arrayItem (withOpening (full (some s) (some a)) xs))
+unfolding withOpening orNull concat
+encode-length s a xs =
+    let every : List Bytes = schemeItem s ∷ authorityItem a ∷ xs in
+    let n : length (concat every) ≡ length (schemeItem s) + (length (authorityItem a) + length (concat xs)) =
+    length-append (schemeItem s) (authorityItem a ++ concat xs) ∙ ap (λ (n : ℕ). length (schemeItem s) + n) (length-append (authorityItem a) (concat xs)) in
+    omega (arith, array-length every)
+
+pub cri-bound : (c : Cri) (p : Option (List Bytes)) → segments p ≡ c .path → GoodCri c
+    → length (uriText c) ≤ 3 * length (encode (record { opening = full (some (c .scheme)) (some (c .authority)); path = p; query = c .query; fragment = c .fragment })) + 13
+unfolding uriText hierarchyText encode
+cri-bound c p e g =
+    let t : rest p (c .query) (c .fragment) ≤ 3 * length (concat (tailItems p (c .query) (c .fragment))) = tail-length p (c .query) (c .fragment) in
+    rw (← e) (simp length-append
+    (omega (arith, scheme-length (c .scheme) (g .scheme), authority-length (c .authority) (g .authority .host), encode-length (c .scheme) (c .authority) (tailItems p (c .query) (c .fragment)))))
+
+pub read-bound : (lim : Limits) (bs : Bytes) (c : Cri) → Octets bs → readAbsolute lim bs ≡ ok c → length (uriText c) ≤ 3 * length bs + 13
+read-bound lim bs c h e =
+    let r : ReadAs lim bs c = read-as lim bs c e in
+    let k : encode (r .said) ≡ bs = ok-at (canonical lim bs h) (r .read) .0 in
+    let same : r .said ≡ record { opening = full (some (c .scheme)) (some (c .authority)); path = r .said .path; query = c .query; fragment = c .fragment } =
+    λ i. record { opening = r .is .opening i; path = r .said .path; query = r .is .query i; fragment = r .is .fragment i } in
+    subst (λ (n : ℕ). length (uriText c) ≤ 3 * n + 13) (ap length (sym (ap encode same) ∙ k)) (cri-bound c (r .said .path) (r .is .path) (good-read lim bs c h e))

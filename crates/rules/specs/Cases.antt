@@ -1,0 +1,155 @@
+-- RULES 9: the table of small cases, and the other worked examples.
+use Prim.Native.Nat.{ℕ, zero, suc, _+_, _*_, _-_, _/_}
+use Prim.Native.Char.{code}
+use Prim.Native.String.{String, len, charAt}
+use mathlib.Core.Path.{_≡_}
+use mathlib.Core.Bool.{cond}
+use mathlib.Core.List.{List, [], _∷_, _++_, map}
+use lib.Dec.{ltb}
+use Rattle.rules.specs.Bytes.{Bytes, ascii}
+use Rattle.rules.specs.Model.{limits}
+use Rattle.rules.specs.Address.{ipv6Text}
+use Rattle.rules.specs.Calls.{Ruling, refuse, write, resolveCall, textCall, optionsCall}
+
+-- ---- bytes written as in the table: "82 00 F6"
+
+abbrev pub hexValue : ℕ → ℕ
+hexValue c = cond (ltb c 0x3A) (c - 0x30) (c - 0x37)
+
+abbrev pub pairs : String → ℕ → ℕ → Bytes
+pairs s i zero = []
+pairs s i (suc n) = (hexValue (code (charAt s i)) * 16 + hexValue (code (charAt s (i + 1)))) ∷ pairs s (i + 3) n
+
+abbrev pub hex : String → Bytes
+hex s = pairs s 0 ((len s + 1) / 3)
+
+-- ---- rows
+
+-- a reference, and what it gives against a base: the call's ruling, and the ruling on the URI text of what it wrote
+pub record Row : Type 0 where
+  pub input : Bytes
+  pub result : Ruling
+  pub text : Ruling
+
+abbrev pub refuses : String → ℕ → Row
+refuses s n = record { input = hex s; result = refuse n; text = refuse n }
+
+abbrev pub gives : String → Bytes → String → Row
+gives s w t = record { input = hex s; result = write w; text = write (ascii t) }
+
+abbrev pub textOf : Ruling → Ruling
+textOf (refuse n) = refuse n
+textOf (write w) = textCall limits w
+
+-- what the calls answer for a row's reference
+abbrev pub answered : Bytes → Row → Row
+answered base r = record { input = r .input; result = resolveCall limits base (r .input); text = textOf (resolveCall limits base (r .input)) }
+
+abbrev pub AllHold : Bytes → List Row → Type 0
+AllHold base rows = map (answered base) rows ≡ rows
+
+-- ---- the table, against B
+
+-- coap, 198.51.100.1, 61616
+abbrev pub origin : Bytes
+origin = hex "20 82 44 C6 33 64 01 19 F0 B0"
+
+-- .well-known
+abbrev pub known : Bytes
+known = hex "6B 2E 77 65 6C 6C 2D 6B 6E 6F 77 6E"
+
+-- core
+abbrev pub core : Bytes
+core = hex "64 63 6F 72 65"
+
+abbrev pub B : Bytes
+B = hex "83" ++ origin ++ hex "82" ++ known ++ core
+
+-- the rows marked *
+unfoldable pub starred : List Row
+starred =
+    refuses "" 1
+    ∷ gives "80" B "coap://198.51.100.1:61616/.well-known/core"
+    ∷ refuses "81 00" 2
+    ∷ gives "82 00 80" B "coap://198.51.100.1:61616/.well-known/core"
+    ∷ gives "82 00 81 61 61" (hex "83" ++ origin ++ hex "83" ++ known ++ core ++ hex "61 61") "coap://198.51.100.1:61616/.well-known/core/a"
+    ∷ gives "82 01 81 61 61" (hex "83" ++ origin ++ hex "82" ++ known ++ hex "61 61") "coap://198.51.100.1:61616/.well-known/a"
+    ∷ gives "81 18 7F" (hex "82" ++ origin) "coap://198.51.100.1:61616/"
+    ∷ refuses "81 18 80" 4
+    ∷ refuses "81 18 17" 3
+    ∷ gives "82 02 81 60" (hex "82" ++ origin) "coap://198.51.100.1:61616/"
+    ∷ gives "83 00 F6 81 60" (hex "84" ++ origin ++ hex "82" ++ known ++ core ++ hex "81 60") "coap://198.51.100.1:61616/.well-known/core?"
+    ∷ refuses "82 F5 81 62 2E 2E" 6
+    ∷ []
+
+-- the other rows
+unfoldable pub unstarred : List Row
+unstarred =
+    refuses "82 00 81 61 C3" 5
+    ∷ gives "82 01 81 60" (hex "83" ++ origin ++ hex "82" ++ known ++ hex "60") "coap://198.51.100.1:61616/.well-known/"
+    ∷ refuses "82 20 84 61 31 61 32 61 33 61 34" 6
+    ∷ refuses "82 20 81 61 41" 6
+    ∷ refuses "82 64 63 6F 61 70 81 61 61" 6
+    ∷ refuses "82 00 F6" 2
+    ∷ refuses "80 00" 7
+    ∷ []
+
+-- ---- two slips, against a base with the path "p", the query "q" and the fragment "f"
+
+abbrev pub long : Bytes
+long = hex "85 20 81 61 68 81 61 70 81 61 71 61 66"
+
+unfoldable pub slips : List Row
+slips =
+    -- resolving 80 to a base that still has its fragment
+    gives "80" (hex "84 20 81 61 68 81 61 70 81 61 71") "coap://h/p?q"
+    -- treating an empty path array as unset: the old query survives
+    ∷ gives "82 00 80" (hex "83 20 81 61 68 81 61 70") "coap://h/p"
+    ∷ []
+
+-- ---- options
+
+pub record Request : Type 0 where
+  pub input : Bytes
+  pub address : Bytes
+  pub port : ℕ
+  pub result : Ruling
+
+abbrev pub request : Bytes → ℕ → Bytes → Request
+request bs port w = record { input = bs; address = hex "C6 33 64 01"; port = port; result = write w }
+
+abbrev pub requested : Request → Request
+requested r = record { input = r .input; address = r .address; port = r .port; result = optionsCall limits (r .input) (r .address) (r .port) }
+
+unfoldable pub requests : List Request
+requests =
+    request B 61616 (hex "BB" ++ ascii ".well-known" ++ hex "04" ++ ascii "core")
+    ∷ request B 5683 (hex "72 F0 B0 4B" ++ ascii ".well-known" ++ hex "04" ++ ascii "core")
+    -- one parameter "a" and nothing before it
+    ∷ request (hex "84 20 81 44 C6 33 64 01 F6 81 61 61") 5683 (hex "D1 02 61")
+    -- a lone empty segment has no option
+    ∷ request (hex "83 20 81 44 C6 33 64 01 81 60") 5683 []
+    ∷ []
+
+-- ---- IPv6 texts
+
+pub record Ipv6 : Type 0 where
+  pub address : Bytes
+  pub text : Bytes
+
+abbrev pub ipv6 : String → String → Ipv6
+ipv6 a t = record { address = hex a; text = ascii t }
+
+abbrev pub ipv6Printed : Ipv6 → Ipv6
+ipv6Printed x = record { address = x .address; text = ipv6Text (x .address) }
+
+unfoldable pub addresses : List Ipv6
+addresses =
+    ipv6 "20 01 0D B8 00 00 00 00 00 01 00 00 00 00 00 01" "2001:db8::1:0:0:1"
+    -- all zero; runs at both ends; the longer run; one zero group is no run
+    ∷ ipv6 "00 00 00 00 00 00 00 00 00 00 00 00 00 00 00 00" "::"
+    ∷ ipv6 "00 00 00 00 00 00 00 00 00 00 00 00 00 00 00 01" "::1"
+    ∷ ipv6 "00 01 00 00 00 00 00 00 00 00 00 00 00 00 00 00" "1::"
+    ∷ ipv6 "00 01 00 00 00 00 00 02 00 00 00 00 00 00 00 03" "1:0:0:2::3"
+    ∷ ipv6 "00 01 00 00 00 02 00 03 00 04 00 05 00 06 00 07" "1:0:2:3:4:5:6:7"
+    ∷ []

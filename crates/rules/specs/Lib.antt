@@ -1,0 +1,19 @@
+-- Document 01's rules as definitions, in reading order. docs/RULES.md has the sentences, under the numbers that comments cite.
+pub mod Bytes
+pub mod Result
+pub mod Model
+pub mod Utf8
+pub mod Head
+pub mod Rules
+pub mod Reader
+pub mod Meaning
+pub mod Encode
+pub mod Valid
+pub mod Resolve
+pub mod Numeral
+pub mod Address
+pub mod Text
+pub mod Options
+pub mod Calls
+pub mod Cases
+pub mod Promises

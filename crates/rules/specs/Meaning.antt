@@ -1,0 +1,60 @@
+-- What the bytes say, at the positions that the reader found.
+use Prim.Native.Nat.{ℕ}
+use mathlib.Core.List.{List}
+use mathlib.Core.Option.{Option, none, some}
+use Rattle.rules.specs.Bytes.{Bytes}
+use Rattle.rules.specs.Result.{Res, ok, given, _>>=_, BASE}
+use Rattle.rules.specs.Model.{Scheme, number, name, Host, address, labels, Authority, Opening, discard, discardAll, full, Parts, Span, Components, Reference, mapParts, Limits, Cri, absolute}
+use Rattle.rules.specs.Reader.{Slot, unset, set, spans, taken, HostAt, addressAt, labelsAt, AuthorityAt, SchemeAt, noScheme, numberAt, nameAt, OpeningAt, discardAt, discardAllAt, fullAt, Found, read}
+
+-- ---- the components: where each text and address stands
+
+abbrev pub span : ℕ → ℕ → Span
+span at n = record { start = at; length = n }
+
+abbrev pub schemeSpan : SchemeAt → Option (Scheme Span)
+schemeSpan noScheme = none
+schemeSpan (numberAt n) = some (number n)
+schemeSpan (nameAt at n) = some (name (span at n))
+
+abbrev pub hostSpans : Bytes → HostAt → Host Span
+hostSpans bs (addressAt at n) = address (span at n)
+hostSpans bs (labelsAt at n) = labels (spans bs at n)
+
+abbrev pub authoritySpans : Bytes → AuthorityAt → Authority Span
+authoritySpans bs a = record { host = hostSpans bs (a .host); port = a .port }
+
+abbrev pub openingSpans : Bytes → OpeningAt → Opening Span
+openingSpans bs (discardAt k) = discard k
+openingSpans bs discardAllAt = discardAll
+openingSpans bs (fullAt s a) = full (schemeSpan s) (some (authoritySpans bs a))
+
+abbrev pub textSpans : Bytes → Slot → Option (List Span)
+textSpans bs unset = none
+textSpans bs (set at n) = some (spans bs at n)
+
+abbrev pub textSpan : Slot → Option Span
+textSpan unset = none
+textSpan (set at n) = some (span at n)
+
+unfoldable pub components : Bytes → Found → Components
+components bs f =
+    record {
+      opening = openingSpans bs (f .opening);
+      path = textSpans bs (f .path);
+      query = textSpans bs (f .query);
+      fragment = textSpan (f .fragment);
+    }
+
+-- ---- the meaning: their bytes
+
+unfoldable pub meaning : Bytes → Found → Reference
+meaning bs f = mapParts (taken bs) (components bs f)
+
+-- the reference that an input says, or the reader's refusal
+unfoldable pub readReference : Limits → Bytes → Res Reference
+readReference lim bs = read lim bs >>= λ f. ok (meaning bs f)
+
+-- the CRI that an absolute input says; BASE where it is not absolute
+unfoldable pub readAbsolute : Limits → Bytes → Res Cri
+readAbsolute lim bs = readReference lim bs >>= λ r. given (absolute r) BASE 0

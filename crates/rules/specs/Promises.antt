@@ -1,0 +1,114 @@
+-- The theorems of this crate, as types. proofs/Proved.antt proves each.
+use Prim.Native.Nat.{ℕ, _+_, _*_, _^_, _≤_, _<_}
+use mathlib.Core.Path.{_≡_}
+use mathlib.Core.Bool.{Bool, true, false}
+use mathlib.Core.List.{List, [], _∷_, _++_, map}
+use mathlib.Core.Logic.{_↔_}
+use mathlib.Core.Option.{none, some}
+use lib.ListN.{length, take}
+use Rattle.rules.specs.Bytes.{Bytes, Octets}
+use Rattle.rules.specs.Result.{Res, refused, ok, CUT, TAIL, RESULT}
+use Rattle.rules.specs.Model.{discard, Reference, Limits, Cri, reference, normalPath, Same}
+use Rattle.rules.specs.Reader.{Found, read}
+use Rattle.rules.specs.Meaning.{readReference, readAbsolute}
+use Rattle.rules.specs.Encode.{encode}
+use Rattle.rules.specs.Valid.{Valid}
+use Rattle.rules.specs.Resolve.{resolve, fits}
+use Rattle.rules.specs.Text.{uriText}
+use Rattle.rules.specs.Calls.{Ruling, refuse, write, Done, outcome, after, resolveCall, textCall}
+use Rattle.rules.specs.Cases.{AllHold, B, starred, unstarred, long, slips, requests, requested, addresses, ipv6Printed}
+
+-- ---- the reader accepts exactly the encodings of valid references, and gives them back
+
+-- what is accepted is the encoding of the valid reference that it says
+abbrev pub Canonical : Type 0
+Canonical = (lim : Limits) (bs : Bytes) (r : Reference) → Octets bs → readReference lim bs ≡ ok r → (encode r ≡ bs) × Valid lim r
+
+-- a valid reference's encoding is made of bytes, and is read as that reference
+abbrev pub Complete : Type 0
+Complete = (lim : Limits) → lim .segments < 2 ^ 64 → (r : Reference) → Valid lim r → Octets (encode r) × (readReference lim (encode r) ≡ ok r)
+
+-- ---- more bytes at the end
+
+-- a refusal other than CUT is the refusal of every longer input that is not too long, at the same place
+abbrev pub Prefix : Type 0
+Prefix =
+    (lim : Limits) (p q : Bytes) → Octets p → length (p ++ q) ≤ lim .bytes → (n k : ℕ) → (n ≡ CUT → ⊥)
+    → read lim p ≡ refused n k → read lim (p ++ q) ≡ refused n k
+
+-- an accepted input with bytes after it is TAIL at the first byte after
+abbrev pub Tail : Type 0
+Tail =
+    (lim : Limits) (p : Bytes) (b : ℕ) (q : Bytes) → Octets p → length (p ++ (b ∷ q)) ≤ lim .bytes → (f : Found)
+    → read lim p ≡ ok f → read lim (p ++ (b ∷ q)) ≡ refused TAIL (length p)
+
+-- ---- demand 3
+
+-- a done call
+abbrev pub done : ℕ → Done
+done n = record { number = 0; length = n }
+
+-- the bytes that a call writes, up to the length it reports
+abbrev pub shown : Ruling → Bytes → Bytes
+shown u room = take (outcome u (length room) .length) (after u room)
+
+-- For any two inputs that the reader accepts as absolute, with room enough, whatever the rooms hold, both URI texts are written,
+-- and they are equal, length and bytes, exactly when the two are the same CRI.
+pub record Texts (u v : Ruling) (c d : Cri) (x y : Bytes) : Type 0 where
+  pub first : outcome u (length x) ≡ done (length (uriText c))
+  pub second : outcome v (length y) ≡ done (length (uriText d))
+  pub firstText : shown u x ≡ uriText c
+  pub secondText : shown v y ≡ uriText d
+  pub same : ((outcome u (length x) .length ≡ outcome v (length y) .length) × (shown u x ≡ shown v y)) ↔ Same c d
+
+abbrev pub Demand3 : Type 0
+Demand3 =
+    (lim : Limits) (a b : Bytes) (c d : Cri) → Octets a → Octets b → readAbsolute lim a ≡ ok c → readAbsolute lim b ≡ ok d
+    → (x y : Bytes) → length (uriText c) ≤ length x → length (uriText d) ≤ length y → Texts (textCall lim a) (textCall lim b) c d x y
+
+-- for an n-byte encoding the text is never longer than 3n + 13 bytes, so a room of that length is enough
+abbrev pub Bound : Type 0
+Bound =
+    (lim : Limits) (bs : Bytes) (c : Cri) → Octets bs → readAbsolute lim bs ≡ ok c
+    → (length (uriText c) ≤ 3 * length bs + 13)
+    × ((n : ℕ) → 3 * length bs + 13 ≤ n → outcome (textCall lim bs) n ≡ done (length (uriText c)))
+
+-- ---- resolving
+
+-- resolving an accepted reference against an accepted absolute base gives an absolute CRI, whose reference is valid and read again
+-- as that CRI, unless 9 applies
+pub record Resolved (lim : Limits) (base ref : Bytes) (c : Cri) : Type 0 where
+  pub written : fits lim c ≡ true → resolveCall lim base ref ≡ write (encode (reference c))
+  pub valid : fits lim c ≡ true → Valid lim (reference c)
+  pub again : fits lim c ≡ true → readAbsolute lim (encode (reference c)) ≡ ok c
+  pub refusal : fits lim c ≡ false → resolveCall lim base ref ≡ refuse RESULT
+
+abbrev pub Resolving : Type 0
+Resolving =
+    (lim : Limits) → lim .segments < 2 ^ 64 → (base ref : Bytes) (b : Cri) (r : Reference) → Octets base → Octets ref
+    → readAbsolute lim base ≡ ok b → readReference lim ref ≡ ok r → Resolved lim base ref (resolve b r)
+
+-- the reference 80 gives the base again, without its fragment
+abbrev pub Nothing : Type 0
+Nothing =
+    (b : Cri) → resolve b (record { opening = discard 0; path = none; query = none; fragment = none })
+    ≡ record { scheme = b .scheme; authority = b .authority; path = normalPath (b .path); query = b .query; fragment = none }
+
+-- the reference 82 00 80 also takes the base's query away
+abbrev pub EmptyPath : Type 0
+EmptyPath =
+    (b : Cri) → resolve b (record { opening = discard 0; path = some []; query = none; fragment = none })
+    ≡ record { scheme = b .scheme; authority = b .authority; path = normalPath (b .path); query = none; fragment = none }
+
+-- ---- worked examples, by computing
+
+-- the starred rows of the table, one statement
+abbrev pub Starred : Type 0
+Starred = AllHold B starred
+
+-- the remaining rows, the two slips, the option examples and the IPv6 examples, one statement
+pub record Examples : Type 0 where
+  pub rows : AllHold B unstarred
+  pub slipped : AllHold long slips
+  pub options : map requested requests ≡ requests
+  pub ipv6 : map ipv6Printed addresses ≡ addresses

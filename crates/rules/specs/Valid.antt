@@ -1,0 +1,62 @@
+-- References that keep the rules and the sizes, said of what they hold and not of how they are read.
+use Prim.Native.Nat.{ℕ, _≤_}
+use mathlib.Core.Path.{_≡_}
+use mathlib.Core.Bool.{Bool, true, _||_}
+use mathlib.Core.List.{List}
+use mathlib.Core.Option.{Option, none, some}
+use lib.ListN.{length}
+use lib.Dec.{eqb}
+use Rattle.rules.specs.Bytes.{Bytes, Each, Octets, within}
+use Rattle.rules.specs.Model.{Scheme, number, name, Host, address, labels, Authority, Opening, discard, discardAll, full, Reference, Limits}
+use Rattle.rules.specs.Utf8.{utf8}
+use Rattle.rules.specs.Rules.{Sort, schemeName, label, segment, parameter, fragmentText, knownScheme, nameRule}
+use Rattle.rules.specs.Encode.{encode}
+
+-- a statement of what is set
+abbrev pub If : {A : Type 0} → (A → Type 0) → Option A → Type 0
+If P none = Unit {0}
+If P (some a) = P a
+
+-- a text that keeps its sort's rules
+pub record Good (s : Sort) (t : Bytes) : Type 0 where
+  pub size : within (s .low) (s .high) (length t) ≡ true
+  pub encoded : utf8 t ≡ true
+  pub rule : s .rule t ≡ true
+
+pub record GoodTexts (s : Sort) (low high : ℕ) (ts : List Bytes) : Type 0 where
+  pub count : within low high (length ts) ≡ true
+  pub each : Each (Good s) ts
+
+pub record GoodAddress (a : Bytes) : Type 0 where
+  pub size : (eqb (length a) 4 || eqb (length a) 16) ≡ true
+  pub octets : Octets a
+
+pub record GoodLabels (ts : List Bytes) : Type 0 where
+  pub texts : GoodTexts label 1 8 ts
+  pub name : nameRule ts ≡ true
+
+abbrev pub GoodHost : Host Bytes → Type 0
+GoodHost (address a) = GoodAddress a
+GoodHost (labels ts) = GoodLabels ts
+
+pub record GoodAuthority (a : Authority Bytes) : Type 0 where
+  pub host : GoodHost (a .host)
+  pub port : If (λ p. p ≤ 65535) (a .port)
+
+abbrev pub GoodScheme : Scheme Bytes → Type 0
+GoodScheme (number n) = knownScheme n ≡ true
+GoodScheme (name t) = Good schemeName t
+
+-- an authority is required beside a scheme, or none
+abbrev pub GoodOpening : Opening Bytes → Type 0
+GoodOpening (discard k) = k ≤ 127
+GoodOpening discardAll = Unit {0}
+GoodOpening (full s none) = ⊥
+GoodOpening (full s (some a)) = If GoodScheme s × GoodAuthority a
+
+pub record Valid (lim : Limits) (r : Reference) : Type 0 where
+  pub opening : GoodOpening (r .opening)
+  pub path : If (GoodTexts segment 0 (lim .segments)) (r .path)
+  pub query : If (GoodTexts parameter 1 16) (r .query)
+  pub fragment : If (Good fragmentText) (r .fragment)
+  pub size : length (encode r) ≤ lim .bytes
