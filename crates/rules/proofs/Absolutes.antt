@@ -2,15 +2,15 @@
 use Prim.Native.Nat.{ℕ, _≤_, _<_, _^_}
 use native.Mathlib.Omega.{arith}
 use mathlib.Core.Path.{_≡_, refl, sym, ap, _∙_, subst}
-use mathlib.Core.Bool.{Bool, true, false, _&&_}
+use mathlib.Core.Bool.{true}
 use mathlib.Core.List.{List, [], _∷_}
 use mathlib.Core.Option.{Option, none, some}
 use lib.ListN.{length}
-use lib.Dec.{leb, lit≤}
+use lib.Dec.{leb}
 use borrow.Author.Tests.{leb-true}
-use Rattle.rules.specs.Bytes.{Bytes, Each, Octets, within}
+use Rattle.rules.specs.Bytes.{Bytes, Each, Octets}
 use Rattle.rules.specs.Result.{Res, refused, ok, given, _>>=_, BASE}
-use Rattle.rules.specs.Model.{Scheme, Authority, Opening, discard, discardAll, full, Reference, Limits, Cri, segments, absolute, reference, setPath}
+use Rattle.rules.specs.Model.{Opening, discard, discardAll, full, Reference, Limits, Cri, elements, absolute, reference, setPath}
 use Rattle.rules.specs.Rules.{segment, parameter, fragmentText}
 use Rattle.rules.specs.Meaning.{readReference, readAbsolute}
 use Rattle.rules.specs.Encode.{encode}
@@ -25,7 +25,7 @@ use Rattle.rules.proofs.Reading.{canonical, complete}
 -- the reference r is absolute, and c is its CRI
 pub record Absolute (r : Reference) (c : Cri) : Type 0 where
   pub opening : r .opening ≡ full (some (c .scheme)) (some (c .authority))
-  pub path : segments (r .path) ≡ c .path
+  pub path : elements (r .path) ≡ c .path
   pub query : r .query ≡ c .query
   pub fragment : r .fragment ≡ c .fragment
 
@@ -40,7 +40,7 @@ absolute-parts discardAll p q f c e = none-some c e
 absolute-parts (full none a) p q f c e = none-some c e
 absolute-parts (full (some s) none) p q f c e = none-some c e
 absolute-parts (full (some s) (some a)) p q f c e =
-    let d : _≡_ {A = Cri} (record { scheme = s; authority = a; path = segments p; query = q; fragment = f }) c = cc in
+    let d : _≡_ {A = Cri} (record { scheme = s; authority = a; path = elements p; query = q; fragment = f }) c = cc in
     record {
       opening = ap (λ (c : Cri). full (some (c .scheme)) (some (c .authority))) d;
       path = ap (λ (c : Cri). c .path) d;
@@ -51,14 +51,14 @@ absolute-parts (full (some s) (some a)) p q f c e =
 pub absolute-is : (r : Reference) (c : Cri) → absolute r ≡ some c → Absolute r c
 absolute-is r c e = absolute-parts (r .opening) (r .path) (r .query) (r .fragment) c e
 
-segments-setPath : (ts : List Bytes) → segments (setPath ts) ≡ ts
-segments-setPath [] = refl
-segments-setPath (t ∷ ts) = refl
+elements-setPath : (ts : List Bytes) → elements (setPath ts) ≡ ts
+elements-setPath [] = refl
+elements-setPath (t ∷ ts) = refl
 
 pub absolute-reference : (c : Cri) → absolute (reference c) ≡ some c
 unfolding absolute reference
 absolute-reference c =
-    ap (λ (p : List Bytes). some (record { scheme = c .scheme; authority = c .authority; path = p; query = c .query; fragment = c .fragment })) (segments-setPath (c .path))
+    ap (λ (p : List Bytes). some (record { scheme = c .scheme; authority = c .authority; path = p; query = c .query; fragment = c .fragment })) (elements-setPath (c .path))
 
 -- ---- what was read as absolute
 
@@ -91,7 +91,7 @@ pub record GoodCri (c : Cri) : Type 0 where
   pub query : If (GoodTexts parameter 1 16) (c .query)
   pub fragment : If (Good fragmentText) (c .fragment)
 
-pub good-path : (low high : ℕ) (p : Option (List Bytes)) → If (GoodTexts segment low high) p → Each (Good segment) (segments p)
+pub good-path : (low high : ℕ) (p : Option (List Bytes)) → If (GoodTexts segment low high) p → Each (Good segment) (elements p)
 good-path low high none g = tt
 good-path low high (some ts) g = g .each
 

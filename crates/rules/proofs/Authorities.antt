@@ -3,20 +3,20 @@ use Prim.Native.Nat.{ℕ, zero, suc, _+_, _-_, _^_, _≤_, _<_}
 use native.Mathlib.Omega.{arith}
 use native.Mathlib.Nat.{add-zero}
 use mathlib.Core.Path.{_≡_, refl, sym, ap, ap₂, _∙_, subst}
-use mathlib.Core.Bool.{Bool, true, false, not, _||_}
+use mathlib.Core.Bool.{Bool, true, not, _||_}
 use mathlib.Core.List.{List, [], _∷_, _++_, append-assoc, append-nil, map}
 use mathlib.Core.Option.{Option, none, some}
 use lib.ListN.{length, drop, length-append, length-map}
-use lib.Dec.{leb, ltb, eqb, lit≤, lit<}
+use lib.Dec.{leb, eqb, lit≤, lit<}
 use borrow.Author.Tests.{leb-true, le-leb, ltb-true, lt-ltb, eqb-true}
 use Rattle.rules.specs.Bytes.{Bytes, Each, Octets, within, concat}
-use Rattle.rules.specs.Result.{Res, ok, need, _>>=_, _>>_, if_then_else_}
+use Rattle.rules.specs.Result.{ok, need, _>>=_, _>>_, if_then_else_}
 use Rattle.rules.specs.Model.{Host, address, labels, Authority}
 use Rattle.rules.specs.Head.{Kind, Number, ByteString, Text, Array, codeOf, is, Head, kindAt, headAt, readHead, headBytes}
 use Rattle.rules.specs.Rules.{label, nameRule}
-use Rattle.rules.specs.Reader.{readContent, endAt, spans, taken, contents, textBody, HostAt, addressAt, labelsAt, AuthorityAt, Names, readNothing, portBody, readPort, labelBody, readNames, addressHost, labelsHost, readAuthority}
+use Rattle.rules.specs.Reader.{endAt, spans, taken, contents, HostAt, addressAt, labelsAt, AuthorityAt, Names, readNothing, portBody, readPort, labelBody, readNames, addressHost, labelsHost, readAuthority}
 use Rattle.rules.specs.Encode.{textItem, arrayItem, portItems, hostItems, authorityItem}
-use Rattle.rules.specs.Valid.{If, Good, GoodTexts, GoodAddress, GoodLabels, GoodHost, GoodAuthority}
+use Rattle.rules.specs.Valid.{If, Good, GoodAddress, GoodLabels, GoodHost, GoodAuthority}
 use Rattle.rules.proofs.Tools.{never, by-test, or-left, or-right, within-low, within-high, is-within, length-part, octets-part}
 use Rattle.rules.proofs.Steps.{Ok, ok!, ok-bind, ok-map, ok-if, ok-need, Yes, yes!, yes-bind, yes-map, yes-then, yes-else, yes-need, Stable, same!, stable-bind, stable-bind-ok, stable-if, stable-need}
 use Rattle.rules.proofs.Heads.{is-kind, Stands, ok-head, yes-head, head-spells, next-inside, Wrote, wrote, head-stable, head-ok}

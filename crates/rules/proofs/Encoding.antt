@@ -1,7 +1,6 @@
 -- The encoding of a valid reference is made of bytes.
-use Prim.Native.Nat.{ℕ, zero, suc, _+_, _^_, _≤_, _<_}
+use Prim.Native.Nat.{ℕ, zero, suc, _^_, _≤_, _<_}
 use native.Mathlib.Omega.{arith}
-use mathlib.Core.Path.{_≡_, refl}
 use mathlib.Core.List.{List, [], _∷_, _++_, map}
 use mathlib.Core.Option.{Option, none, some}
 use lib.ListN.{length, length-map}
@@ -16,7 +15,7 @@ use Rattle.rules.proofs.Tools.{each-append, each-concat, within-high}
 use Rattle.rules.proofs.Heads.{octets-head}
 use Rattle.rules.proofs.Texts.{good-64}
 use Rattle.rules.proofs.Authorities.{address-size, items-count}
-use Rattle.rules.proofs.Openings.{known-below, Opens, opens-count, opens-of}
+use Rattle.rules.proofs.Openings.{known-below, opens-count, opens-of}
 use Rattle.rules.proofs.Reading.{tail-last}
 use Rattle.rules.proofs.Utf8Bytes.{good-octets}
 

@@ -5,10 +5,10 @@ use native.Mathlib.Numerals.{add-one}
 use native.Mathlib.Nat.{mul-assoc, zero-add, pow-suc}
 use mathlib.Core.Path.{_≡_, refl, sym, ap, ap₂, _∙_, subst}
 use mathlib.Core.Bool.{Bool, true, false, cond}
-use mathlib.Core.List.{List, [], _∷_, _++_, append-nil}
-use lib.ListN.{length, getD, take, drop, length-drop, length-append, take-append-drop}
+use mathlib.Core.List.{[], _∷_, _++_, append-nil}
+use lib.ListN.{length, getD, take, drop, length-drop, take-append-drop}
 use lib.Seq.{drop-cons, length-take-le, drop-drop}
-use lib.Dec.{leb, ltb, eqb, lit<}
+use lib.Dec.{leb, ltb, eqb}
 use borrow.Author.Tests.{ltb-true, leb-true, eqb-true, lt-ltb, le-ltb, le-leb, eq-eqb}
 use Rattle.rules.specs.Bytes.{Bytes, Octets, part, numberFrom, bigEndian}
 use Rattle.rules.specs.Result.{Res, ok, need, _>>=_, _>>_, HEAD}
@@ -129,6 +129,11 @@ module _ {B : Type 0} {Q : B → Type 0} (allowed : Kind → Bool) (bs : Bytes) 
 pub next-inside : {allowed : Kind → Bool} (bs : Bytes) (at : ℕ) → Stands allowed bs at → headAt bs at .next ≤ length bs
 unfolding headAt
 next-inside bs at r = r .inside
+
+-- a number that stands in the first byte
+pub small-value : (bs : Bytes) (at b : ℕ) → getD bs at 0 ≡ b → ltb (b % 32) 24 ≡ true → headAt bs at .value ≡ b % 32
+unfolding headAt
+small-value bs at b e l = rw e (cond-yes (ltb (b % 32) 24) (b % 32) _ l)
 
 -- the bytes after a first byte are those of the number that they give
 args : (t : Bool) (i w : ℕ) (xs : Bytes) → Octets xs → cond t 0 w ≤ length xs → bigEndian (cond t 0 w) (cond t i (numberFrom 0 (take (cond t 0 w) xs))) [] ≡ take (cond t 0 w) xs

@@ -1,24 +1,23 @@
 -- The laws of the opening.
-use Prim.Native.Nat.{ℕ, zero, suc, _+_, _-_, _^_, _%_, _≤_, _<_}
+use Prim.Native.Nat.{ℕ, zero, suc, _-_, _≤_, _<_}
 use native.Mathlib.Omega.{arith}
 use mathlib.Core.Path.{_≡_, refl, sym, ap, ap₂, _∙_, subst}
-use mathlib.Core.Bool.{Bool, true, false, not, _&&_, _||_, cond}
-use mathlib.Core.List.{List, [], _∷_, _++_, append-assoc, append-nil}
+use mathlib.Core.Bool.{Bool, true, false, not, _&&_, _||_}
+use mathlib.Core.List.{List, [], _∷_, _++_, append-nil}
 use mathlib.Core.Option.{Option, none, some}
 use lib.ListN.{length, getD, drop}
 use lib.Dec.{leb, ltb, eqb, lit≤, lit<}
 use borrow.Author.Tests.{leb-true, le-leb, ltb-true, eqb-true, ne-eqb}
-use Rattle.rules.specs.Bytes.{Bytes, Octets, all, any, part, concat, bigEndian, numberFrom}
-use Rattle.rules.specs.Result.{Res, need, _>>=_, _>>_}
+use Rattle.rules.specs.Bytes.{Bytes, Octets, all, any, concat, bigEndian}
 use Rattle.rules.specs.Model.{Scheme, number, name, Authority, Opening, discard, discardAll, full}
 use Rattle.rules.specs.Head.{Kind, Number, Negative, ByteString, Text, Array, True, Null, Other, codeOf, Head, kindAt, headAt, headBytes, majorOf, shortest, width}
 use Rattle.rules.specs.Rules.{schemeName, SchemeEntry, schemes, knownScheme}
 use Rattle.rules.specs.Reader.{opens, taken, SchemeAt, noScheme, numberAt, nameAt, OpeningAt, discardAt, discardAllAt, fullAt, Opened, afterScheme, openingBody, readOpening}
-use Rattle.rules.specs.Encode.{authorityItem, schemeItem, orNull, trueItem, nullItem, withOpening, discardAlone}
+use Rattle.rules.specs.Encode.{authorityItem, schemeItem, orNull, trueItem, withOpening, discardAlone}
 use Rattle.rules.specs.Valid.{If, GoodAuthority, GoodScheme, GoodOpening}
 use Rattle.rules.proofs.Tools.{never, by-test, and-left, and-right}
 use Rattle.rules.proofs.Steps.{Ok, no!, ok!, ok-bind, ok-need, Yes, yes!, yes-bind, yes-need, Stable, same!, stable-bind, stable-need}
-use Rattle.rules.proofs.Heads.{Stands, ok-head, yes-head, head-spells, next-inside, Wrote, wrote, head-stable, Lead, lead}
+use Rattle.rules.proofs.Heads.{small-value, Stands, ok-head, yes-head, head-spells, next-inside, Wrote, wrote, head-stable, Lead, lead}
 use Rattle.rules.proofs.Texts.{ok-textBody, good-64, yes-textBody, wrote-text, textBody-stable}
 use Rattle.rules.proofs.Slots.{null-spells, wrote-null, one-item, item-one}
 use Rattle.rules.proofs.Authorities.{authorityOf, ok-authority, yes-authority, authority-stable, cons-spells, first-item}
@@ -77,10 +76,7 @@ number-opens zero (suc v) a b = alone
 number-opens (suc n) v a b = subst (λ (l : ℕ). Opens (suc (suc n)) (discard v) l) (omega arith) (before (omega (arith, leb-true (suc (suc n)) 4 a)))
 
 true-value : (bs : Bytes) (at : ℕ) → kindAt bs at ≡ True → headAt bs at .value ≡ 21
-unfolding headAt
-true-value bs at e =
-    let b : getD bs at 0 ≡ 0xF5 = subst (λ (k : Kind). Lead k (getD bs at 0)) e (lead (getD bs at 0)) in
-    ap (λ (x : ℕ). cond (ltb (x % 32) 24) (x % 32) (numberFrom 0 (part bs (at + 1) (width (x % 32))))) b
+true-value bs at e = small-value bs at 0xF5 (subst (λ (k : Kind). Lead k (getD bs at 0)) e (lead (getD bs at 0))) refl
 
 true-bytes : headBytes True 21 ≡ trueItem
 unfolding headBytes majorOf shortest width bigEndian

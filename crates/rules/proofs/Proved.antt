@@ -1,25 +1,22 @@
 -- Each promise of specs/Promises.antt, proved.
-use Prim.Native.Nat.{ℕ, _+_, _*_, _≤_, _<_}
+use Prim.Native.Nat.{ℕ, _+_, _*_, _≤_}
 use native.Mathlib.Omega.{arith}
-use mathlib.Core.Logic.{_↔_}
 use mathlib.Core.Path.{_≡_, refl, sym, ap, _∙_}
-use mathlib.Core.Bool.{Bool, true, false, cond}
-use mathlib.Core.List.{List, [], _∷_, _++_}
-use lib.ListN.{length, take, drop}
+use mathlib.Core.Bool.{Bool}
+use lib.ListN.{length, drop}
 use lib.Seq.{take-at}
-use lib.Dec.{ltb}
 use borrow.Author.Tests.{le-ltb}
-use Rattle.rules.specs.Bytes.{Bytes, Octets}
-use Rattle.rules.specs.Result.{Res, refused, ok, need, _>>_, _>>=_}
-use Rattle.rules.specs.Model.{Reference, Limits, Cri, reference, Same}
+use Rattle.rules.specs.Bytes.{Bytes}
+use Rattle.rules.specs.Result.{ok, need, _>>_}
+use Rattle.rules.specs.Model.{Limits, Cri, reference}
 use Rattle.rules.specs.Meaning.{readReference, readAbsolute}
 use Rattle.rules.specs.Encode.{encode}
-use Rattle.rules.specs.Resolve.{resolve, fits, resolved}
+use Rattle.rules.specs.Resolve.{resolve}
 use Rattle.rules.specs.Text.{uriText}
-use Rattle.rules.specs.Calls.{Ruling, refuse, write, ruling, Done, outcome, after, printed, textCall, resolveCall}
-use Rattle.rules.specs.Cases.{starred, unstarred, slips, requests, addresses}
+use Rattle.rules.specs.Calls.{Ruling, write, ruling, Done, outcome, after, printed, textCall, resolveCall}
+use Rattle.rules.specs.Cases.{starred, unstarred, slips, refusals, requests, addresses}
 use Rattle.rules.specs.Promises as P
-use Rattle.rules.specs.Promises.{done, shown, Texts, Resolved}
+use Rattle.rules.specs.Promises.{done, shown}
 use Rattle.rules.proofs.Steps.{ok-at, bind-ok}
 use Rattle.rules.proofs.Reading.{canonical, complete, prefix-refused, prefix-accepted}
 use Rattle.rules.proofs.Encoding.{encode-octets}
@@ -34,6 +31,10 @@ canonical-proved lim bs r h e = ok-at (canonical lim bs h) e
 
 pub complete-proved : P.Complete
 complete-proved lim small r v = (encode-octets lim small r v, complete lim small r v)
+
+pub exact-proved : P.Exact
+exact-proved lim small bs r h =
+    (λ e. ok-at (canonical lim bs h) e, λ e. ap (readReference lim) (sym (e .0)) ∙ complete lim small r (e .1))
 
 pub prefix-proved : P.Prefix
 prefix-proved lim p q h size n k d e = prefix-refused lim p q h size n k d e
@@ -96,11 +97,11 @@ resolving-proved lim small base ref b r hb hr eb er =
       refusal = λ e. ap ruling (is ∙ ap (λ (t : Bool). need t 9 0 >> ok (encode (reference c))) e);
     }
 
-pub nothing-proved : P.Nothing
-nothing-proved = resolve-nothing
+pub empty-reference-proved : P.EmptyReference
+empty-reference-proved = resolve-nothing
 
-pub empty-path-proved : P.EmptyPath
-empty-path-proved = resolve-empty
+pub empty-path-array-proved : P.EmptyPathArray
+empty-path-array-proved = resolve-empty
 
 -- ---- worked examples
 
@@ -109,5 +110,5 @@ unfolding computed starred
 starred-proved = refl
 
 pub examples-proved : P.Examples
-unfolding computed unstarred slips requests addresses
-examples-proved = record { rows = refl; slipped = refl; options = refl; ipv6 = refl }
+unfolding computed unstarred slips refusals requests addresses
+examples-proved = record { rows = refl; slipped = refl; order = refl; options = refl; ipv6 = refl }

@@ -2,26 +2,25 @@
 --   canonical:  what is accepted says a valid reference, whose encoding is the bytes read;
 --   complete:   the encoding of a valid reference is accepted, and says that reference;
 --   prefix:     a refusal other than CUT stands, whatever follows; an accepted input with bytes after it is TAIL at the first of them.
-use Prim.Native.Nat.{ℕ, zero, suc, _+_, _-_, _^_, _≤_, _<_}
+use Prim.Native.Nat.{ℕ, suc, _+_, _-_, _^_, _≤_, _<_}
 use native.Mathlib.Omega.{arith}
 use mathlib.Core.Path.{_≡_, refl, sym, ap, ap₂, _∙_, subst}
-use mathlib.Core.Bool.{Bool, true, false}
 use mathlib.Core.List.{List, [], _∷_, _++_, map, append-assoc, append-nil}
 use mathlib.Core.Option.{Option, none, some, Option·map}
 use lib.ListN.{length, drop, length-drop, length-append, drop-of-length-le}
-use lib.Dec.{leb, lit≤, lit<}
+use lib.Dec.{lit≤, lit<}
 use borrow.Author.Tests.{leb-true, le-leb, lt-leb}
 use Rattle.rules.specs.Bytes.{Bytes, Octets, concat}
-use Rattle.rules.specs.Result.{Res, refused, ok, need, _>>=_, _>>_, TAIL}
+use Rattle.rules.specs.Result.{Res, refused, ok, TAIL}
 use Rattle.rules.specs.Model.{Opening, full, Reference, Limits, mapScheme, mapHost, mapOpening}
-use Rattle.rules.specs.Head.{Kind, Array, codeOf, is, Head, kindAt, headAt, headBytes}
+use Rattle.rules.specs.Head.{Array, codeOf, is, Head, kindAt, headAt, headBytes}
 use Rattle.rules.specs.Rules.{segment, parameter, fragmentText}
-use Rattle.rules.specs.Reader.{taken, contents, SlotAt, SchemeAt, noScheme, numberAt, nameAt, Slot, unset, set, HostAt, addressAt, labelsAt, AuthorityAt, OpeningAt, discardAt, discardAllAt, fullAt, Opened, Found, read}
+use Rattle.rules.specs.Reader.{taken, contents, SlotAt, SchemeAt, noScheme, numberAt, nameAt, Slot, unset, set, HostAt, addressAt, labelsAt, OpeningAt, discardAt, discardAllAt, fullAt, Opened, Found, read}
 use Rattle.rules.specs.Meaning.{schemeSpan, hostSpans, openingSpans, textSpans, textSpan, components, meaning, readReference}
 use Rattle.rules.specs.Encode.{textItem, textsItem, arrayItem, tailItems, withOpening, encode}
 use Rattle.rules.specs.Valid.{Good, GoodTexts, Valid}
 use Rattle.rules.proofs.Tools.{concat-append}
-use Rattle.rules.proofs.Steps.{Ok, ok!, ok-bind, ok-need, ok-at, Yes, yes!, yes-bind, yes-need, yes-use, Kept, kept-bind, kept-need, kept-last, kept-both, kept-refused, kept-accepted, bind-ok}
+use Rattle.rules.proofs.Steps.{Ok, ok!, ok-bind, ok-need, Yes, yes!, yes-bind, yes-need, yes-use, Kept, kept-bind, kept-need, kept-last, kept-both, kept-refused, kept-accepted, bind-ok}
 use Rattle.rules.proofs.Heads.{is-kind, Stands, ok-head, yes-head, head-ok, head-spells, next-inside, head-stable}
 use Rattle.rules.proofs.Slots.{textsOf, textOf, Last, written, SlotIs, ok-array, ok-fragment, yes-array, yes-fragment, array-stable, fragment-stable, three, tail-three}
 use Rattle.rules.proofs.Authorities.{hostOf, same-authority, wrote-array}

@@ -1,18 +1,17 @@
 -- The laws of resolving: each step keeps the rules, so the result of what was read is valid where it fits.
-use Prim.Native.Nat.{ℕ, zero, suc, _-_, _<_, _^_}
-use mathlib.Core.Path.{_≡_, refl, sym, ap, _∙_}
-use mathlib.Core.Bool.{Bool, true, false}
-use mathlib.Core.List.{List, [], _∷_, _++_, append-nil}
-use mathlib.Core.Option.{Option, none, some}
-use lib.ListN.{length, take}
+use Prim.Native.Nat.{ℕ, zero, suc, _-_}
+use mathlib.Core.Path.{_≡_, refl}
+use mathlib.Core.List.{List, [], _∷_, append-nil}
+use mathlib.Core.Option.{Option, none, some, Option·getD}
+use lib.ListN.{length}
 use Rattle.rules.specs.Bytes.{Bytes, Each}
-use Rattle.rules.specs.Result.{Res, refused, ok, need, _>>=_, _>>_, RESULT}
+use Rattle.rules.specs.Result.{ok, need, _>>=_, _>>_, RESULT}
 use Rattle.rules.specs.Model.{Scheme, Authority, Opening, discard, discardAll, full, Reference, Limits, Cri, reference, normalPath, normal}
 use Rattle.rules.specs.Rules.{segment, parameter, fragmentText}
 use Rattle.rules.specs.Meaning.{readReference, readAbsolute}
 use Rattle.rules.specs.Encode.{encode}
 use Rattle.rules.specs.Valid.{If, Good, GoodTexts, GoodAuthority, GoodScheme, GoodOpening, Valid}
-use Rattle.rules.specs.Resolve.{start, cleared, discarded, appended, orElse, or, unlessSet, schemeOf, authorityOf, copied, resolve, asBase, fits, resolved}
+use Rattle.rules.specs.Resolve.{start, cleared, discarded, appended, or, unlessSet, schemeOf, authorityOf, copied, resolve, fits, resolved}
 use Rattle.rules.proofs.Tools.{each-append, each-take}
 use Rattle.rules.proofs.Absolutes.{GoodCri}
 
@@ -62,7 +61,7 @@ unfolding appended
 good-appended n none c h g = g
 good-appended n (some ts) c h g = good-cleared c _ g (each-append _ (c .path) ts (g .path) (h .each))
 
-opening-scheme : (o : Opening Bytes) (s : Scheme Bytes) → GoodOpening o → GoodScheme s → GoodScheme (orElse s (schemeOf o))
+opening-scheme : (o : Opening Bytes) (s : Scheme Bytes) → GoodOpening o → GoodScheme s → GoodScheme (Option·getD (schemeOf o) s)
 opening-scheme (discard k) s h g = g
 opening-scheme discardAll s h g = g
 opening-scheme (full none none) s h g = g
@@ -70,7 +69,7 @@ opening-scheme (full none (some a)) s h g = g
 opening-scheme (full (some t) none) s h g = absurd h
 opening-scheme (full (some t) (some a)) s h g = h .0
 
-opening-authority : (o : Opening Bytes) (a : Authority Bytes) → GoodOpening o → GoodAuthority a → GoodAuthority (orElse a (authorityOf o))
+opening-authority : (o : Opening Bytes) (a : Authority Bytes) → GoodOpening o → GoodAuthority a → GoodAuthority (Option·getD (authorityOf o) a)
 opening-authority (discard k) a h g = g
 opening-authority discardAll a h g = g
 opening-authority (full s none) a h g = g

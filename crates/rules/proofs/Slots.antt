@@ -1,23 +1,22 @@
 -- The laws of path, query and fragment: each may be unset, and what is unset at the end is left off.
-use Prim.Native.Nat.{ℕ, zero, suc, _+_, _-_, _^_, _%_, _≤_, _<_}
+use Prim.Native.Nat.{ℕ, zero, suc, _-_, _^_, _≤_, _<_}
 use native.Mathlib.Omega.{arith}
 use mathlib.Core.Path.{_≡_, refl, sym, ap, ap₂, _∙_, subst}
-use mathlib.Core.Bool.{Bool, true, false, cond, not, _||_}
+use mathlib.Core.Bool.{Bool, true, not, _||_}
 use mathlib.Core.List.{List, [], _∷_, _++_, append-assoc, append-nil, map}
 use mathlib.Core.Option.{Option, none, some}
-use lib.ListN.{length, getD, drop, length-append, length-map}
-use lib.Dec.{ltb, eqb, lit<}
+use lib.ListN.{length, getD, drop, length-map}
+use lib.Dec.{lit<}
 use borrow.Author.Tests.{ne-eqb}
-use Rattle.rules.specs.Bytes.{Bytes, Each, Octets, part, within, concat, bigEndian, numberFrom}
-use Rattle.rules.specs.Result.{Res, need, _>>=_, _>>_}
+use Rattle.rules.specs.Bytes.{Bytes, Octets, part, within, concat, bigEndian}
 use Rattle.rules.specs.Head.{Kind, Text, Array, Null, codeOf, is, Head, kindAt, headAt, headBytes, majorOf, shortest, width}
 use Rattle.rules.specs.Rules.{Sort, fragmentText}
-use Rattle.rules.specs.Reader.{contents, readTexts, textBody, Slot, unset, set, SlotAt, nullBody, arrayBody, readArray, fragmentBody, readFragment}
+use Rattle.rules.specs.Reader.{contents, Slot, unset, set, SlotAt, nullBody, arrayBody, readArray, fragmentBody, readFragment}
 use Rattle.rules.specs.Encode.{textItem, arrayItem, textsItem, nullItem, orNull, tailItems}
 use Rattle.rules.specs.Valid.{If, Good, GoodTexts}
 use Rattle.rules.proofs.Tools.{never, or-left, within-high}
 use Rattle.rules.proofs.Steps.{Ok, ok!, ok-bind, ok-if, ok-need, Yes, yes!, yes-bind, yes-then, yes-else, yes-need, Stable, same!, stable-bind, stable-if, stable-need}
-use Rattle.rules.proofs.Heads.{is-kind, Stands, ok-head, yes-head, head-spells, next-inside, Wrote, wrote, head-stable, Lead, lead}
+use Rattle.rules.proofs.Heads.{is-kind, small-value, Stands, ok-head, yes-head, head-spells, next-inside, Wrote, wrote, head-stable, Lead, lead}
 use Rattle.rules.proofs.Texts.{contentAt, ok-textBody, ok-texts, good-64, yes-textBody, wrote-text, yes-texts, textBody-stable, texts-stable, length-contents}
 
 -- what a slot says
@@ -45,13 +44,10 @@ Last (suc n) (some a) = Unit {0}
 
 -- ---- null
 
-pub null-value : (bs : Bytes) (at : ℕ) → kindAt bs at ≡ Null → headAt bs at .value ≡ 22
-unfolding headAt
-null-value bs at e =
-    let b : getD bs at 0 ≡ 0xF6 = subst (λ (k : Kind). Lead k (getD bs at 0)) e (lead (getD bs at 0)) in
-    ap (λ (x : ℕ). cond (ltb (x % 32) 24) (x % 32) (numberFrom 0 (part bs (at + 1) (width (x % 32))))) b
+null-value : (bs : Bytes) (at : ℕ) → kindAt bs at ≡ Null → headAt bs at .value ≡ 22
+null-value bs at e = small-value bs at 0xF6 (subst (λ (k : Kind). Lead k (getD bs at 0)) e (lead (getD bs at 0))) refl
 
-pub null-bytes : headBytes Null 22 ≡ nullItem
+null-bytes : headBytes Null 22 ≡ nullItem
 unfolding headBytes majorOf shortest width bigEndian
 null-bytes = refl
 

@@ -1,29 +1,29 @@
 -- The text of a valid CRI reads as the CRI, its path in normal form. So two have one text exactly when they are the same.
 use mathlib.Core.Logic.{_↔_}
 use mathlib.Core.Path.{_≡_, refl, sym, ap, ap₂, _∙_}
-use Prim.Native.Nat.{ℕ, zero, suc, _+_, _≤_, _<_}
+use Prim.Native.Nat.{ℕ, _≤_, _<_}
 use native.Mathlib.Omega.{arith}
 use mathlib.Core.Bool.{Bool, true, false, not, cond, _&&_, _||_}
 use mathlib.Core.Option.{Option, none, some, Option·map}
 use mathlib.Core.List.{List, [], _∷_, _++_, map, append-assoc}
 use lib.ListN.{length, length-map}
 use lib.Dec.{leb, ltb, eqb}
-use borrow.Author.Tests.{eqb-true, lt-ltb, le-leb, ltb-true, leb-true, not-true}
-use Rattle.rules.specs.Bytes.{Bytes, Each, Octets, ascii, dot, colon, slash, question, hash, ampersand, percent, within, all, any, member, same, join}
-use Rattle.rules.specs.Model.{Scheme, number, name, Host, address, labels, Authority, Cri, normalPath, normal, Same}
+use borrow.Author.Tests.{eqb-true, lt-ltb, ltb-true, not-true}
+use Rattle.rules.specs.Bytes.{Bytes, Each, Octets, ascii, dot, colon, slash, question, hash, ampersand, within, all, same, join}
+use Rattle.rules.specs.Model.{Scheme, number, name, Host, address, labels, Cri, normalPath, normal, Same}
 use Rattle.rules.specs.Rules.{label, segment, parameter, fragmentText, SchemeEntry, schemes, schemeIn, knownScheme, schemeByte, startsLower, schemeRule, labelByte, labelRule, octet, looksIPv4, nameRule}
-use Rattle.rules.specs.Valid.{If, Good, GoodTexts, GoodAddress, GoodLabels, GoodHost, GoodScheme}
+use Rattle.rules.specs.Valid.{If, Good, GoodTexts, GoodHost, GoodScheme}
 use Rattle.rules.specs.Numeral.{digitByte, decimal}
 use Rattle.rules.specs.Address.{ipv4Text, ipv6Text, leftBracket, rightBracket, addressText}
 use Rattle.rules.specs.Text.{Class, Label, Segment, Parameter, Fragment, bare, hexDigit, escape, marked, entryName, schemeText, hostText, authorityText, pathText, queryText, hierarchyText, uriText}
-use Rattle.rules.proofs.Tools.{never, by-test, and-left, and-right, All, each-append, each-map, each-all, allBelow, below, allOf, same-refl, same-true}
+use Rattle.rules.proofs.Tools.{never, by-test, and-left, and-right, All, each-append, each-map, each-all, allBelow, allOf, same-refl}
 use Rattle.rules.proofs.Openings.{of-schemes}
 use Rattle.rules.proofs.Utf8Bytes.{good-octets, goods-octets}
 use Rattle.rules.proofs.Absolutes.{GoodCri}
-use Rattle.rules.proofs.Escapes.{other, lacks, lacks-of, all-lacks, unescape, unescape-escape, escape-all, escapes-lack, escape-bare, upto, after, Free, upto-cut, after-cut, free, split, fill, split-join, join-all}
+use Rattle.rules.proofs.Escapes.{lacks, lacks-of, all-lacks, unescape, unescape-escape, escape-all, escapes-lack, escape-bare, Free, upto-cut, after-cut, free, fill, split-join, join-all}
 use Rattle.rules.proofs.Numerals.{value, filled, decimal-value, decimal-all, decimal-octet}
-use Rattle.rules.proofs.Addresses.{unIpv6, unIpv6-text, ipv6-all}
-use Rattle.rules.proofs.UnText.{_>>=_, numberIn, named, unScheme, unescapes, unParts, opened, unPort, unHost, starts, unName, unBracket, unAuthority, slashes, unText}
+use Rattle.rules.proofs.Addresses.{unIpv6-text, ipv6-all}
+use Rattle.rules.proofs.UnText.{numberIn, unScheme, unescapes, unParts, opened, unPort, unHost, starts, unName, unBracket, unAuthority, slashes, unText}
 
 -- ---- parts: escaped, joined, split and unescaped
 

@@ -1,8 +1,8 @@
 -- The bound: the text of an absolute input of n bytes has at most 3n + 13 bytes, for any limits.
-use Prim.Native.Nat.{ℕ, zero, suc, _+_, _-_, _*_, _≤_, _<_}
+use Prim.Native.Nat.{ℕ, suc, _+_, _-_, _*_, _≤_}
 use native.Mathlib.Omega.{arith}
 use mathlib.Core.Path.{_≡_, refl, sym, ap, _∙_, subst}
-use mathlib.Core.Bool.{Bool, true, false, cond, _||_}
+use mathlib.Core.Bool.{true, cond, _||_}
 use mathlib.Core.Option.{Option, none, some, Option·map}
 use mathlib.Core.List.{List, [], _∷_, _++_, map}
 use lib.ListN.{length, length-append}
@@ -10,7 +10,7 @@ use lib.Dec.{leb, ltb, eqb}
 use borrow.Author.Tests.{eqb-true, leb-true, ltb-true, ltb-false}
 use Rattle.rules.specs.Bytes.{Bytes, Octets, dot, colon, slash, question, hash, ampersand, all, concat, join}
 use Rattle.rules.specs.Result.{ok}
-use Rattle.rules.specs.Model.{Scheme, number, name, Host, address, labels, Authority, full, Reference, Limits, Cri, segments}
+use Rattle.rules.specs.Model.{Scheme, number, name, Host, address, labels, Authority, full, Limits, Cri, elements}
 use Rattle.rules.specs.Rules.{schemes, schemeIn, knownScheme}
 use Rattle.rules.specs.Head.{Number, Negative, ByteString, Text, Array, headBytes}
 use Rattle.rules.specs.Meaning.{readAbsolute}
@@ -24,7 +24,7 @@ use Rattle.rules.proofs.Steps.{ok-at}
 use Rattle.rules.proofs.Heads.{head-some, head-two}
 use Rattle.rules.proofs.Openings.{of-schemes}
 use Rattle.rules.proofs.Reading.{canonical}
-use Rattle.rules.proofs.Absolutes.{Absolute, ReadAs, read-as, GoodCri, good-read}
+use Rattle.rules.proofs.Absolutes.{ReadAs, read-as, GoodCri, good-read}
 use Rattle.rules.proofs.Escapes.{escape-length}
 use Rattle.rules.proofs.Numerals.{decimal-length, decimal-two, decimal-three}
 use Rattle.rules.proofs.Addresses.{ipv6-length}
@@ -106,7 +106,7 @@ texts-length : (k : Class) (d : ℕ) (ps : List Bytes) → length (join d (map (
 unfolding textsItem
 texts-length k d ps = omega (arith, join-length k d ps, array-length (map textItem ps))
 
-path-length : (p : Option (List Bytes)) → length (pathText (segments p)) ≤ 3 * length (orNull textsItem p)
+path-length : (p : Option (List Bytes)) → length (pathText (elements p)) ≤ 3 * length (orNull textsItem p)
 unfolding pathText orNull join
 path-length none = omega arith
 path-length (some ps) = omega (arith, texts-length Segment slash ps)
@@ -117,7 +117,7 @@ query-length none = omega arith
 query-length (some ps) = omega (arith, texts-length Parameter ampersand ps)
 
 abbrev rest : Option (List Bytes) → Option (List Bytes) → Option Bytes → ℕ
-rest p q f = length (pathText (segments p)) + length (marked question (Option·map queryText q)) + length (marked hash (Option·map (escape Fragment) f))
+rest p q f = length (pathText (elements p)) + length (marked question (Option·map queryText q)) + length (marked hash (Option·map (escape Fragment) f))
 
 path-none : length (pathText []) ≡ 0
 unfolding pathText join
@@ -141,7 +141,7 @@ encode-length s a xs =
     length-append (schemeItem s) (authorityItem a ++ concat xs) ∙ ap (λ (n : ℕ). length (schemeItem s) + n) (length-append (authorityItem a) (concat xs)) in
     omega (arith, array-length every)
 
-pub cri-bound : (c : Cri) (p : Option (List Bytes)) → segments p ≡ c .path → GoodCri c
+pub cri-bound : (c : Cri) (p : Option (List Bytes)) → elements p ≡ c .path → GoodCri c
     → length (uriText c) ≤ 3 * length (encode (record { opening = full (some (c .scheme)) (some (c .authority)); path = p; query = c .query; fragment = c .fragment })) + 13
 unfolding uriText hierarchyText encode
 cri-bound c p e g =

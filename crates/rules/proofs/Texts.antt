@@ -2,13 +2,12 @@
 use Prim.Native.Nat.{ℕ, zero, suc, _+_, _^_, _≤_, _<_}
 use native.Mathlib.Omega.{arith}
 use mathlib.Core.Path.{_≡_, refl, sym, ap, ap₂, _∙_, subst}
-use mathlib.Core.Bool.{Bool, true, false}
+use mathlib.Core.Bool.{Bool, true}
 use mathlib.Core.List.{List, [], _∷_, _++_, append-assoc, map}
 use lib.ListN.{length, drop, length-drop, length-append}
-use lib.Dec.{leb}
 use borrow.Author.Tests.{leb-true, le-leb}
 use Rattle.rules.specs.Bytes.{Bytes, Each, Octets, part, within, concat}
-use Rattle.rules.specs.Result.{Res, ok, need, _>>=_, _>>_}
+use Rattle.rules.specs.Result.{Res, ok, _>>=_}
 use Rattle.rules.specs.Utf8.{utf8}
 use Rattle.rules.specs.Head.{Kind, Text, codeOf, is, Head, kindAt, infoAt, headAt, headBytes}
 use Rattle.rules.specs.Rules.{Sort}

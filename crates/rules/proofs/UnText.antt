@@ -1,12 +1,12 @@
 -- The reading of URI text back, for the proof that a text determines its CRI.
 -- It takes more texts than are written: bare bytes that should be escaped, and escapes of bytes that may be bare.
 use Prim.Native.Nat.{ℕ}
-use mathlib.Core.Bool.{Bool, true, false, cond, _&&_}
+use mathlib.Core.Bool.{Bool, false, cond, _&&_}
 use mathlib.Core.Option.{Option, none, some}
 use mathlib.Core.List.{List, [], _∷_, map, tail}
 use lib.Dec.{ltb, eqb}
 use Rattle.rules.specs.Bytes.{Bytes, dot, colon, slash, question, hash, ampersand, same}
-use Rattle.rules.specs.Model.{Scheme, number, name, Host, address, labels, Authority, Cri, segments, normalPath}
+use Rattle.rules.specs.Model.{Scheme, number, name, Host, address, labels, Authority, Cri, elements, normalPath}
 use Rattle.rules.specs.Rules.{SchemeEntry, schemes, looksIPv4}
 use Rattle.rules.specs.Numeral.{decimal}
 use Rattle.rules.specs.Address.{leftBracket, rightBracket}
@@ -86,4 +86,4 @@ unText t =
     opened (unParts slash) (after slash r) >>= λ ps.
     opened (unParts ampersand) (after question u) >>= λ q.
     opened unescape (after hash t) >>= λ f.
-    some (record { scheme = unScheme (upto colon m); authority = a; path = normalPath (segments ps); query = q; fragment = f })
+    some (record { scheme = unScheme (upto colon m); authority = a; path = normalPath (elements ps); query = q; fragment = f })

@@ -1,6 +1,6 @@
--- The text of an address: IPv4 in dotted decimal, IPv6 by RFC 5952, section 4, always in hex groups.
-use Prim.Native.Nat.{ℕ, zero, suc, _+_, _*_}
-use mathlib.Core.Bool.{Bool, cond}
+-- RULES 6.5: the text of an address: IPv4 in dotted decimal, IPv6 by RFC 5952, section 4, always in hex groups.
+use Prim.Native.Nat.{ℕ, suc, _+_, _*_}
+use mathlib.Core.Bool.{cond}
 use mathlib.Core.List.{List, [], _∷_, _++_, map}
 use lib.ListN.{length, drop}
 use lib.Dec.{leb, eqb}

@@ -1,13 +1,16 @@
--- RULES 9: the table of small cases, and the other worked examples.
+-- RULES 11: the table of small cases, and the other worked examples.
 use Prim.Native.Nat.{ℕ, zero, suc, _+_, _*_, _-_, _/_}
 use Prim.Native.Char.{code}
 use Prim.Native.String.{String, len, charAt}
 use mathlib.Core.Path.{_≡_}
 use mathlib.Core.Bool.{cond}
 use mathlib.Core.List.{List, [], _∷_, _++_, map}
+use lib.ListN.{replicate}
 use lib.Dec.{ltb}
 use Rattle.rules.specs.Bytes.{Bytes, ascii}
+use Rattle.rules.specs.Result.{Res, refused, ok}
 use Rattle.rules.specs.Model.{limits}
+use Rattle.rules.specs.Reader.{Found, read}
 use Rattle.rules.specs.Address.{ipv6Text}
 use Rattle.rules.specs.Calls.{Ruling, refuse, write, resolveCall, textCall, optionsCall}
 
@@ -48,7 +51,7 @@ answered base r = record { input = r .input; result = resolveCall limits base (r
 abbrev pub AllHold : Bytes → List Row → Type 0
 AllHold base rows = map (answered base) rows ≡ rows
 
--- ---- the table, against B
+-- ---- 11.1: the table, against B
 
 -- coap, 198.51.100.1, 61616
 abbrev pub origin : Bytes
@@ -94,7 +97,7 @@ unstarred =
     ∷ refuses "80 00" 7
     ∷ []
 
--- ---- two slips, against a base with the path "p", the query "q" and the fragment "f"
+-- ---- 11.4: two slips, against a base with the path "p", the query "q" and the fragment "f"
 
 abbrev pub long : Bytes
 long = hex "85 20 81 61 68 81 61 70 81 61 71 61 66"
@@ -107,7 +110,64 @@ slips =
     ∷ gives "82 00 80" (hex "83 20 81 61 68 81 61 70") "coap://h/p"
     ∷ []
 
--- ---- options
+-- ---- 11.5: refusals of the reader, with their places
+
+pub record Refusal : Type 0 where
+  pub input : Bytes
+  pub number : ℕ
+  pub place : ℕ
+
+abbrev pub refusedAs : Bytes → Res Found → Refusal
+refusedAs bs (refused n k) = record { input = bs; number = n; place = k }
+refusedAs bs (ok f) = record { input = bs; number = 0; place = 0 }
+
+-- what the reader answers
+abbrev pub answeredRefusal : Refusal → Refusal
+answeredRefusal r = refusedAs (r .input) (read limits (r .input))
+
+abbrev pub at : String → ℕ → ℕ → Refusal
+at s n k = record { input = hex s; number = n; place = k }
+
+unfoldable pub refusals : List Refusal
+refusals =
+    -- a missing item is cut at the input's length; a kind, then a long head; the outer count at the range step
+    at "81" 1 1
+    ∷ at "85 F4" 2 1
+    ∷ at "82 18 17" 3 1
+    ∷ at "98" 1 0
+    ∷ at "98 06" 3 0
+    ∷ at "98 18" 2 0
+    ∷ at "86" 2 0
+    -- of one text: length, content cut, UTF-8, rule
+    ∷ at "82 71" 4 1
+    ∷ at "82 62 FF" 1 1
+    ∷ at "82 62 41 FF" 5 1
+    ∷ at "82 62 41 41" 6 1
+    -- the opening's own checks before the number of items
+    ∷ at "81 22" 6 1
+    ∷ at "81 64 63 6F 61 70" 6 1
+    ∷ at "85 18 80" 4 1
+    ∷ at "81 18 00" 3 1
+    ∷ at "85 00" 2 1
+    ∷ at "81 20" 2 1
+    ∷ at "81 00" 2 1
+    -- a final null; an empty query
+    ∷ at "82 00 F6" 2 2
+    ∷ at "83 00 F6 80" 4 3
+    -- authorities: a number first, an item after the port, no item, a ninth label, the IPv4 look
+    ∷ at "82 20 81 05" 2 3
+    ∷ at "82 20 83 61 61 00 61" 2 6
+    ∷ at "82 20 83 61 61 00" 1 6
+    ∷ at "82 20 80" 4 2
+    ∷ at "82 20 89 61 61 61 61 61 61 61 61 61 61 61 61 61 61 61 61 61" 4 19
+    ∷ at "82 20 89 61 61 61 61 61 61 61 61 61 61 61 61 61 61 61 61 7F" 3 19
+    ∷ at "82 20 84 61 31 61 32 61 33 61 34" 6 2
+    -- bytes after the array; over 1,024 bytes
+    ∷ at "80 00" 7 1
+    ∷ record { input = replicate 1025 0; number = 4; place = 1024 }
+    ∷ []
+
+-- ---- 11.2: options
 
 pub record Request : Type 0 where
   pub input : Bytes
@@ -118,8 +178,9 @@ pub record Request : Type 0 where
 abbrev pub request : Bytes → ℕ → Bytes → Request
 request bs port w = record { input = bs; address = hex "C6 33 64 01"; port = port; result = write w }
 
-abbrev pub requested : Request → Request
-requested r = record { input = r .input; address = r .address; port = r .port; result = optionsCall limits (r .input) (r .address) (r .port) }
+-- what the call answers
+abbrev pub answeredRequest : Request → Request
+answeredRequest r = record { input = r .input; address = r .address; port = r .port; result = optionsCall limits (r .input) (r .address) (r .port) }
 
 unfoldable pub requests : List Request
 requests =
@@ -131,7 +192,7 @@ requests =
     ∷ request (hex "83 20 81 44 C6 33 64 01 81 60") 5683 []
     ∷ []
 
--- ---- IPv6 texts
+-- ---- 11.3: IPv6 texts
 
 pub record Ipv6 : Type 0 where
   pub address : Bytes

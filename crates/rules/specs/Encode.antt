@@ -1,4 +1,4 @@
--- RULES 1: the transfer form of a reference.
+-- RULES 1.1 to 1.8: the transfer form of a reference. RULES 9.3 has it written from components too.
 use Prim.Native.Nat.{ℕ, zero, suc}
 use mathlib.Core.List.{List, [], _∷_, _++_, map}
 use mathlib.Core.Option.{Option, none, some}
@@ -27,14 +27,14 @@ unfoldable pub orNull : {A : Type 0} → (A → Bytes) → Option A → Bytes
 orNull f none = nullItem
 orNull f (some a) = f a
 
--- path, query and fragment; what is unset at the end is left off
+-- 1.4, 1.5: path, query and fragment; what is unset at the end is left off
 unfoldable pub tailItems : Option (List Bytes) → Option (List Bytes) → Option Bytes → List Bytes
 tailItems p q (some f) = orNull textsItem p ∷ orNull textsItem q ∷ textItem f ∷ []
 tailItems p (some q) none = orNull textsItem p ∷ textsItem q ∷ []
 tailItems (some p) none none = textsItem p ∷ []
 tailItems none none none = []
 
--- an address or labels, then an optional port
+-- 1.8: an address or labels, then a port, or none
 unfoldable pub portItems : Option ℕ → List Bytes
 portItems none = []
 portItems (some p) = headBytes Number p ∷ []
@@ -46,17 +46,17 @@ hostItems (labels ts) = map textItem ts
 unfoldable pub authorityItem : Authority Bytes → Bytes
 authorityItem a = arrayItem (hostItems (a .host) ++ portItems (a .port))
 
--- a scheme number n is carried as the negative integer -1 - n
+-- 1.6: a scheme number n is carried as the negative integer -1 - n
 unfoldable pub schemeItem : Scheme Bytes → Bytes
 schemeItem (number n) = headBytes Negative n
 schemeItem (name t) = textItem t
 
--- the array holding only 0 is written as the empty array
+-- 1.5: the array holding only 0 is written as the empty array
 unfoldable pub discardAlone : ℕ → List Bytes
 discardAlone zero = []
 discardAlone (suc k) = headBytes Number (suc k) ∷ []
 
--- the opening before these other items; no scheme is written as null, a missing authority as null where something follows
+-- 1.2, 1.3 and 9.3: the opening before these other items; no scheme is written as null, a missing authority as null where something follows
 unfoldable pub withOpening : Opening Bytes → List Bytes → List Bytes
 withOpening (discard k) [] = discardAlone k
 withOpening (discard k) (x ∷ xs) = headBytes Number k ∷ x ∷ xs

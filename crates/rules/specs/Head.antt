@@ -1,7 +1,7 @@
 -- The head of a CBOR item: its kind, its number (a value, a length or a count), and where it ends.
-use Prim.Native.Nat.{ℕ, zero, suc, _+_, _*_, _-_, _%_, _^_}
-use mathlib.Core.Bool.{Bool, true, false, cond}
-use mathlib.Core.List.{List, [], _∷_}
+use Prim.Native.Nat.{ℕ, _+_, _*_, _-_, _%_, _^_}
+use mathlib.Core.Bool.{Bool, cond}
+use mathlib.Core.List.{[], _∷_}
 use lib.ListN.{length, getD}
 use lib.Dec.{ltb, leb, eqb}
 use Rattle.rules.specs.Bytes.{Bytes, part, numberFrom, bigEndian}
@@ -21,7 +21,7 @@ codeOf True = 5
 codeOf Null = 6
 codeOf Other = 7
 
--- the second kind is the first
+-- the kind k is j
 abbrev pub is : Kind → Kind → Bool
 is j k = eqb (codeOf k) (codeOf j)
 
@@ -36,7 +36,7 @@ kindOf b =
     (cond (eqb b 0xF5) True
     (cond (eqb b 0xF6) Null Other))))))
 
--- how many bytes follow a first byte with this head information, 0 to 27
+-- STD 94, section 3: how many bytes follow a first byte with this head information, 0 to 27
 unfoldable pub width : ℕ → ℕ
 width i = cond (ltb i 24) 0 (2 ^ (i - 24))
 

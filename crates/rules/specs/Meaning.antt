@@ -4,7 +4,7 @@ use mathlib.Core.List.{List}
 use mathlib.Core.Option.{Option, none, some}
 use Rattle.rules.specs.Bytes.{Bytes}
 use Rattle.rules.specs.Result.{Res, ok, given, _>>=_, BASE}
-use Rattle.rules.specs.Model.{Scheme, number, name, Host, address, labels, Authority, Opening, discard, discardAll, full, Parts, Span, Components, Reference, mapParts, Limits, Cri, absolute}
+use Rattle.rules.specs.Model.{Scheme, number, name, Host, address, labels, Authority, Opening, discard, discardAll, full, Span, Components, Reference, mapParts, Limits, Cri, absolute}
 use Rattle.rules.specs.Reader.{Slot, unset, set, spans, taken, HostAt, addressAt, labelsAt, AuthorityAt, SchemeAt, noScheme, numberAt, nameAt, OpeningAt, discardAt, discardAllAt, fullAt, Found, read}
 
 -- ---- the components: where each text and address stands

@@ -1,17 +1,18 @@
--- What a CRI reference says.
+-- RULES 1: what a CRI reference says.
 use Prim.Native.Nat.{ℕ}
 use mathlib.Core.Path.{_≡_}
-use mathlib.Core.Bool.{Bool, true, false}
 use mathlib.Core.List.{List, [], _∷_, map}
 use mathlib.Core.Option.{Option, none, some, Option·map}
 use Rattle.rules.specs.Bytes.{Bytes}
 
--- The parts of a reference. A text or an address is given as an A: as its bytes, or as where they stand.
+-- The parts of a reference. A text or an address is given as an A: as its bytes, or as where they stand in an input.
 
+-- RULES 1.6, 1.7
 pub data Scheme (A : Type 0) : Type 0 where
   number : ℕ → Scheme A
   name : A → Scheme A
 
+-- RULES 1.8: an address or a run of labels, then a port, or none
 pub data Host (A : Type 0) : Type 0 where
   address : A → Host A
   labels : List A → Host A
@@ -20,12 +21,14 @@ pub record Authority (A : Type 0) : Type 0 where
   pub host : Host A
   pub port : Option ℕ
 
--- a discard: a number of segments, or true; or a scheme, or none, with an authority, or none
+-- RULES 1.2, 1.3: a discard, which is a number or true; or a scheme, or none, with an authority. Only RULES 9 knows an opening
+-- that lacks both, or the authority: the reader refuses it.
 pub data Opening (A : Type 0) : Type 0 where
   discard : ℕ → Opening A
   discardAll : Opening A
   full : Option (Scheme A) → Option (Authority A) → Opening A
 
+-- RULES 1.4: null, or an item left off at the end, is none; an empty path array is some []
 pub record Parts (A : Type 0) : Type 0 where
   pub opening : Opening A
   pub path : Option (List A)
@@ -70,7 +73,7 @@ mapParts f r =
       fragment = Option·map f (r .fragment);
     }
 
--- RULES 2: the sizes that later versions raise
+-- RULES 2.1, 2.2: the two sizes that may grow are an argument of every definition that needs them
 pub record Limits : Type 0 where
   pub bytes : ℕ
   pub segments : ℕ
@@ -80,7 +83,7 @@ limits = record { bytes = 1024; segments = 32 }
 
 -- ---- absolute CRIs
 
--- RULES 1.8: absolute means scheme and authority both present and not null
+-- what an absolute reference says; a path that is unset and one that is the empty array are both []
 pub record Cri : Type 0 where
   pub scheme : Scheme Bytes
   pub authority : Authority Bytes
@@ -88,11 +91,12 @@ pub record Cri : Type 0 where
   pub query : Option (List Bytes)
   pub fragment : Option Bytes
 
--- an unset path and an empty path array have no segments
-abbrev pub segments : {A : Type 0} → Option (List A) → List A
-segments none = []
-segments (some ts) = ts
+-- the elements of what is set
+abbrev pub elements : {A : Type 0} → Option (List A) → List A
+elements none = []
+elements (some ts) = ts
 
+-- RULES 1.12: scheme and authority both present and not null
 unfoldable pub absolute : Reference → Option Cri
 absolute r = openedAs (r .opening)
   where
@@ -102,18 +106,19 @@ absolute r = openedAs (r .opening)
     openedAs (full none a) = none
     openedAs (full (some s) none) = none
     openedAs (full (some s) (some a)) =
-        some (record { scheme = s; authority = a; path = segments (r .path); query = r .query; fragment = r .fragment })
+        some (record { scheme = s; authority = a; path = elements (r .path); query = r .query; fragment = r .fragment })
 
 -- RULES 5.4: an empty path is written as unset
 abbrev pub setPath : List Bytes → Option (List Bytes)
 setPath [] = none
 setPath (t ∷ ts) = some (t ∷ ts)
 
+-- the reference that a CRI is written as
 unfoldable pub reference : Cri → Reference
 reference c =
     record { opening = full (some (c .scheme)) (some (c .authority)); path = setPath (c .path); query = c .query; fragment = c .fragment }
 
--- a path of one empty segment counts as no path
+-- RULES 5.0, 5.4, 6.1, 8.4: a path of one empty segment counts as no path
 unfoldable pub normalPath : List Bytes → List Bytes
 normalPath [] = []
 normalPath ([] ∷ []) = []
@@ -124,18 +129,18 @@ unfoldable pub normal : Cri → Cri
 normal c =
     record { scheme = c .scheme; authority = c .authority; path = normalPath (c .path); query = c .query; fragment = c .fragment }
 
--- ---- RULES 8: what demand 3 compares, taken from the items of each input
+-- ---- RULES 8: when two CRIs are the same
 
 pub record Same (a b : Cri) : Type 0 where
-  -- the number, or the text's bytes; a number and a text are never the same
+  -- 8.1: the number, or the text's bytes; a number and a text are never the same
   pub scheme : a .scheme ≡ b .scheme
-  -- the address's bytes, or the labels in order; an address and labels are never the same
+  -- 8.2: the address's bytes, or the labels in order; an address and labels are never the same
   pub host : a .authority .host ≡ b .authority .host
-  -- unset, or its number; a default port written differs from one left off
+  -- 8.3: unset, or its number; a default port written differs from one left off
   pub port : a .authority .port ≡ b .authority .port
-  -- the segments in order; unset, an empty array and one empty segment are all no path
+  -- 8.4: the segments in order; unset, an empty array and one empty segment are all no path
   pub path : normalPath (a .path) ≡ normalPath (b .path)
-  -- unset, or the parameters in order
+  -- 8.5: unset, or the parameters in order
   pub query : a .query ≡ b .query
-  -- unset, or its bytes; unset and empty differ
+  -- 8.6: unset, or its bytes; unset and empty differ
   pub fragment : a .fragment ≡ b .fragment

@@ -1,13 +1,13 @@
 -- The theorems of this crate, as types. proofs/Proved.antt proves each.
 use Prim.Native.Nat.{ℕ, _+_, _*_, _^_, _≤_, _<_}
 use mathlib.Core.Path.{_≡_}
-use mathlib.Core.Bool.{Bool, true, false}
-use mathlib.Core.List.{List, [], _∷_, _++_, map}
+use mathlib.Core.Bool.{true, false}
+use mathlib.Core.List.{[], _∷_, _++_, map}
 use mathlib.Core.Logic.{_↔_}
 use mathlib.Core.Option.{none, some}
 use lib.ListN.{length, take}
 use Rattle.rules.specs.Bytes.{Bytes, Octets}
-use Rattle.rules.specs.Result.{Res, refused, ok, CUT, TAIL, RESULT}
+use Rattle.rules.specs.Result.{refused, ok, CUT, TAIL, RESULT}
 use Rattle.rules.specs.Model.{discard, Reference, Limits, Cri, reference, normalPath, Same}
 use Rattle.rules.specs.Reader.{Found, read}
 use Rattle.rules.specs.Meaning.{readReference, readAbsolute}
@@ -16,7 +16,7 @@ use Rattle.rules.specs.Valid.{Valid}
 use Rattle.rules.specs.Resolve.{resolve, fits}
 use Rattle.rules.specs.Text.{uriText}
 use Rattle.rules.specs.Calls.{Ruling, refuse, write, Done, outcome, after, resolveCall, textCall}
-use Rattle.rules.specs.Cases.{AllHold, B, starred, unstarred, long, slips, requests, requested, addresses, ipv6Printed}
+use Rattle.rules.specs.Cases.{AllHold, B, starred, unstarred, long, slips, refusals, answeredRefusal, requests, answeredRequest, addresses, ipv6Printed}
 
 -- ---- the reader accepts exactly the encodings of valid references, and gives them back
 
@@ -27,6 +27,12 @@ Canonical = (lim : Limits) (bs : Bytes) (r : Reference) → Octets bs → readRe
 -- a valid reference's encoding is made of bytes, and is read as that reference
 abbrev pub Complete : Type 0
 Complete = (lim : Limits) → lim .segments < 2 ^ 64 → (r : Reference) → Valid lim r → Octets (encode r) × (readReference lim (encode r) ≡ ok r)
+
+-- both at once
+abbrev pub Exact : Type 0
+Exact =
+    (lim : Limits) → lim .segments < 2 ^ 64 → (bs : Bytes) (r : Reference) → Octets bs
+    → (readReference lim bs ≡ ok r) ↔ ((encode r ≡ bs) × Valid lim r)
 
 -- ---- more bytes at the end
 
@@ -42,7 +48,7 @@ Tail =
     (lim : Limits) (p : Bytes) (b : ℕ) (q : Bytes) → Octets p → length (p ++ (b ∷ q)) ≤ lim .bytes → (f : Found)
     → read lim p ≡ ok f → read lim (p ++ (b ∷ q)) ≡ refused TAIL (length p)
 
--- ---- demand 3
+-- ---- demand 3: two different CRIs never print as one text
 
 -- a done call
 abbrev pub done : ℕ → Done
@@ -54,7 +60,7 @@ shown u room = take (outcome u (length room) .length) (after u room)
 
 -- For any two inputs that the reader accepts as absolute, with room enough, whatever the rooms hold, both URI texts are written,
 -- and they are equal, length and bytes, exactly when the two are the same CRI.
-pub record Texts (u v : Ruling) (c d : Cri) (x y : Bytes) : Type 0 where
+pub record BothPrinted (u v : Ruling) (c d : Cri) (x y : Bytes) : Type 0 where
   pub first : outcome u (length x) ≡ done (length (uriText c))
   pub second : outcome v (length y) ≡ done (length (uriText d))
   pub firstText : shown u x ≡ uriText c
@@ -64,7 +70,7 @@ pub record Texts (u v : Ruling) (c d : Cri) (x y : Bytes) : Type 0 where
 abbrev pub Demand3 : Type 0
 Demand3 =
     (lim : Limits) (a b : Bytes) (c d : Cri) → Octets a → Octets b → readAbsolute lim a ≡ ok c → readAbsolute lim b ≡ ok d
-    → (x y : Bytes) → length (uriText c) ≤ length x → length (uriText d) ≤ length y → Texts (textCall lim a) (textCall lim b) c d x y
+    → (x y : Bytes) → length (uriText c) ≤ length x → length (uriText d) ≤ length y → BothPrinted (textCall lim a) (textCall lim b) c d x y
 
 -- for an n-byte encoding the text is never longer than 3n + 13 bytes, so a room of that length is enough
 abbrev pub Bound : Type 0
@@ -89,14 +95,14 @@ Resolving =
     → readAbsolute lim base ≡ ok b → readReference lim ref ≡ ok r → Resolved lim base ref (resolve b r)
 
 -- the reference 80 gives the base again, without its fragment
-abbrev pub Nothing : Type 0
-Nothing =
+abbrev pub EmptyReference : Type 0
+EmptyReference =
     (b : Cri) → resolve b (record { opening = discard 0; path = none; query = none; fragment = none })
     ≡ record { scheme = b .scheme; authority = b .authority; path = normalPath (b .path); query = b .query; fragment = none }
 
 -- the reference 82 00 80 also takes the base's query away
-abbrev pub EmptyPath : Type 0
-EmptyPath =
+abbrev pub EmptyPathArray : Type 0
+EmptyPathArray =
     (b : Cri) → resolve b (record { opening = discard 0; path = some []; query = none; fragment = none })
     ≡ record { scheme = b .scheme; authority = b .authority; path = normalPath (b .path); query = none; fragment = none }
 
@@ -106,9 +112,10 @@ EmptyPath =
 abbrev pub Starred : Type 0
 Starred = AllHold B starred
 
--- the remaining rows, the two slips, the option examples and the IPv6 examples, one statement
+-- the remaining rows, the two slips, refusals with their places, the option examples and the IPv6 examples, one statement
 pub record Examples : Type 0 where
   pub rows : AllHold B unstarred
   pub slipped : AllHold long slips
-  pub options : map requested requests ≡ requests
+  pub order : map answeredRefusal refusals ≡ refusals
+  pub options : map answeredRequest requests ≡ requests
   pub ipv6 : map ipv6Printed addresses ≡ addresses

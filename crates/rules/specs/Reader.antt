@@ -1,7 +1,7 @@
 -- RULES 4: reading. Items from left to right, on positions in the bytes; the first item with a fault decides.
 -- Each step touches the bytes only through `readHead` and `readContent`.
 use Prim.Native.Nat.{ℕ, zero, suc, _+_, _-_}
-use mathlib.Core.Bool.{Bool, true, false, _&&_, _||_, not}
+use mathlib.Core.Bool.{Bool, false, _&&_, _||_, not}
 use mathlib.Core.List.{List, [], _∷_, map}
 use mathlib.Core.Option.{Option, none, some}
 use lib.ListN.{length}
@@ -21,7 +21,7 @@ readContent bs at h = do
   need (leb (h .next + h .value) (length bs)) CUT at
   ok (part bs (h .next) (h .value))
 
--- a text, whose head has been read: its length, content cut, UTF-8, then its rule; the position after it
+-- 4.3: a text, whose head has been read: its length, content cut, UTF-8, then its rule; the position after it
 unfoldable pub textBody : Sort → Bytes → ℕ → Head → Res ℕ
 textBody s bs at h = do
   need (within (s .low) (s .high) (h .value)) LIMIT at
@@ -60,6 +60,7 @@ spans bs at (suc n) = spanAt bs at ∷ spans bs (endAt bs at) n
 abbrev pub taken : Bytes → Span → Bytes
 taken bs s = part bs (s .start) (s .length)
 
+-- the contents of n items, one after the other
 unfoldable pub contents : Bytes → ℕ → ℕ → List Bytes
 contents bs at n = map (taken bs) (spans bs at n)
 
@@ -74,12 +75,13 @@ pub record SlotAt : Type 0 where
   pub slot : Slot
   pub next : ℕ
 
--- null means unset, and is never the last item: `left` items stand after it
+-- 4.6: null means unset, and is never the last item: `left` items stand after it
 unfoldable pub nullBody : ℕ → ℕ → Head → Res SlotAt
 nullBody at left h = do
   need (not (eqb left 0)) FORM at
   ok (record { slot = unset; next = h .next })
 
+-- 2.2, 2.3: an array of low to high texts, whose head has been read
 unfoldable pub arrayBody : Sort → ℕ → ℕ → Bytes → ℕ → Head → Res SlotAt
 arrayBody s low high bs at h = do
   need (within low high (h .value)) LIMIT at
@@ -125,27 +127,28 @@ pub record Names : Type 0 where
   pub port : Option ℕ
   pub next : ℕ
 
--- nothing may stand after the port
+-- 4.7: nothing may stand after the port
 unfoldable pub readNothing : Bytes → ℕ → ℕ → Res ℕ
 readNothing bs at zero = ok at
 readNothing bs at (suc left) = do
   h ← readHead (λ k. false) bs at
   refused FORM at
 
+-- 2.6: a port, whose head has been read, after `count` labels
 unfoldable pub portBody : Bytes → ℕ → ℕ → ℕ → Head → Res Names
 portBody bs at left count h = do
   need (leb (h .value) 65535) LIMIT at
   next ← readNothing bs (h .next) left
   ok (record { count = count; port = some (h .value); next = next })
 
--- after an address: a port, or nothing
+-- 4.7: after an address a port, or nothing
 unfoldable pub readPort : Bytes → ℕ → ℕ → Res Names
 readPort bs at zero = ok (record { count = 0; port = none; next = at })
 readPort bs at (suc left) = do
   h ← readHead (is Number) bs at
   portBody bs at left 0 h
 
--- the n-th label, from 0: a ninth is over the limit
+-- 4.7: the n-th label, from 0; a ninth is over the limit
 unfoldable pub labelBody : ℕ → Bytes → ℕ → Head → Res ℕ
 labelBody n bs at h = do
   need (ltb n 8) LIMIT at
@@ -158,6 +161,7 @@ readNames bs at (suc left) n = do
   h ← readHead (λ k. is Text k || is Number k) bs at
   if is Text (h .kind) then (labelBody n bs at h >>= λ next. readNames bs next left (suc n)) else portBody bs at left n h
 
+-- 2.6: an address has 4 or 16 bytes
 unfoldable pub addressHost : Bytes → ℕ → ℕ → ℕ → Head → Res AuthorityAt
 addressHost bs start at left h = do
   need (eqb (h .value) 4 || eqb (h .value) 16) LIMIT at
@@ -165,7 +169,7 @@ addressHost bs start at left h = do
   p ← readPort bs (h .next + h .value) left
   ok (record { at = start; host = addressAt (h .next) (h .value); port = p .port; next = p .next })
 
--- the rules over all labels come after the last authority item, at the authority's first byte
+-- 4.8: the rules over all labels come after the last authority item, at the authority's first byte
 unfoldable pub labelsHost : Bytes → ℕ → ℕ → ℕ → Head → Res AuthorityAt
 labelsHost bs start at left h = do
   next ← labelBody 0 bs at h
@@ -173,7 +177,7 @@ labelsHost bs start at left h = do
   need (nameRule (contents bs at (p .count))) RULE start
   ok (record { at = start; host = labelsAt at (p .count); port = p .port; next = p .next })
 
--- an array of 1 to 9 items: an address or a run of labels, then an optional port
+-- 2.6: an array of 1 to 9 items: an address or a run of labels, then an optional port
 unfoldable pub readAuthority : Bytes → ℕ → Res AuthorityAt
 readAuthority bs at = do
   a ← readHead (is Array) bs at
@@ -199,14 +203,14 @@ pub record Opened : Type 0 where
   pub next : ℕ
   pub left : ℕ
 
--- a scheme needs a second item, the authority
+-- 4.5: a scheme needs a second item, the authority
 unfoldable pub afterScheme : Bytes → ℕ → ℕ → SchemeAt → ℕ → Res Opened
 afterScheme bs at count s next = do
   need (leb 2 count) FORM at
   a ← readAuthority bs next
   ok (record { opening = fullAt s a; next = a .next; left = count - 2 })
 
--- the opening item, the first of `count` items, and after its own checks the rules on their number
+-- 4.5: the opening item, the first of `count` items, and after its own checks the rules on their number
 unfoldable pub openingBody : Bytes → ℕ → ℕ → Head → Kind → Res Opened
 openingBody bs at count h Number = do
   need (leb (h .value) 127) LIMIT at
@@ -227,17 +231,18 @@ openingBody bs at count h True = do
 openingBody bs at count h Null = afterScheme bs at count noScheme (h .next)
 openingBody bs at count h Other = refused FORM at
 
+-- the kinds that an opening item may have
 abbrev pub opens : Kind → Bool
 opens k = is Number k || is Negative k || is Text k || is True k || is Null k
 
--- the empty array is the array of only 0
+-- 1.5: the empty array is the array of only 0
 unfoldable pub readOpening : Bytes → ℕ → ℕ → Res Opened
 readOpening bs at zero = ok (record { opening = discardAt 0; next = at; left = 0 })
 readOpening bs at (suc n) = do
   h ← readHead opens bs at
   openingBody bs at (suc n) h (h .kind)
 
--- ---- the whole
+-- ---- the whole: 4.1, the outer array and 4.4, the items, 4.9
 
 pub record Found : Type 0 where
   pub opening : OpeningAt

@@ -1,8 +1,8 @@
 -- RULES 5: resolving a reference against a base, step by step.
-use Prim.Native.Nat.{ℕ, zero, suc, _-_}
+use Prim.Native.Nat.{zero, suc, _-_}
 use mathlib.Core.Bool.{Bool, _&&_}
 use mathlib.Core.List.{List, [], _++_}
-use mathlib.Core.Option.{Option, none, some}
+use mathlib.Core.Option.{Option, none, some, Option·getD}
 use lib.ListN.{length, take}
 use lib.Dec.{leb}
 use Rattle.rules.specs.Bytes.{Bytes}
@@ -11,15 +11,16 @@ use Rattle.rules.specs.Model.{Scheme, Authority, Opening, discard, disca
 use Rattle.rules.specs.Meaning.{readReference, readAbsolute}
 use Rattle.rules.specs.Encode.{encode}
 
--- 0. The base loses its fragment, and a path of one empty segment becomes no path.
+-- 5.0 The base loses its fragment, and a path of one empty segment becomes no path.
 unfoldable pub start : Cri → Cri
 start b =
     record { scheme = b .scheme; authority = b .authority; path = normalPath (b .path); query = b .query; fragment = none }
 
+-- the CRI with this path, query and fragment unset
 abbrev pub cleared : Cri → List Bytes → Cri
 cleared c p = record { scheme = c .scheme; authority = c .authority; path = p; query = none; fragment = none }
 
--- 1. Discard true: path empty, query and fragment unset. Discard k: the last k segments go, or all if there are fewer;
+-- 5.1 Discard true: path empty, query and fragment unset. Discard k: the last k segments go, or all if there are fewer;
 -- if k is not 0, query and fragment are unset. With a scheme or authority, discard counts as true.
 unfoldable pub discarded : Opening Bytes → Cri → Cri
 discarded (discard zero) c = c
@@ -27,20 +28,17 @@ discarded (discard (suc k)) c = cleared c (take (length (c .path) - suc k) (c .p
 discarded discardAll c = cleared c []
 discarded (full s a) c = cleared c []
 
--- 2. A set path is appended, and query and fragment are unset, also when it is the empty array.
+-- 5.2 A set path is appended, and query and fragment are unset, also when it is the empty array.
 unfoldable pub appended : Option (List Bytes) → Cri → Cri
 appended none c = c
 appended (some ts) c = cleared c (c .path ++ ts)
 
--- 3. Scheme, authority, query and fragment are copied where the reference sets them; a copied query unsets an older fragment.
-abbrev pub orElse : {A : Type 0} → A → Option A → A
-orElse b none = b
-orElse b (some a) = a
-
+-- what the first sets, or else the second
 abbrev pub or : {A : Type 0} → Option A → Option A → Option A
 or none b = b
 or (some a) b = some a
 
+-- the second, unless the first is set
 abbrev pub unlessSet : {A B : Type 0} → Option A → Option B → Option B
 unlessSet none b = b
 unlessSet (some a) b = none
@@ -55,17 +53,18 @@ authorityOf (discard k) = none
 authorityOf discardAll = none
 authorityOf (full s a) = a
 
+-- 5.3 Scheme, authority, query and fragment are copied where the reference sets them; a copied query unsets an older fragment.
 unfoldable pub copied : Reference → Cri → Cri
 copied r c =
     record {
-      scheme = orElse (c .scheme) (schemeOf (r .opening));
-      authority = orElse (c .authority) (authorityOf (r .opening));
+      scheme = Option·getD (schemeOf (r .opening)) (c .scheme);
+      authority = Option·getD (authorityOf (r .opening)) (c .authority);
       path = c .path;
       query = or (r .query) (c .query);
       fragment = or (r .fragment) (unlessSet (r .query) (c .fragment));
     }
 
--- 4. In the result a path of one empty segment becomes no path.
+-- 5.4 In the result a path of one empty segment becomes no path. `reference` writes an empty path as unset.
 unfoldable pub resolve : Cri → Reference → Cri
 resolve base r = normal (copied r (appended (r .path) (discarded (r .opening) (start base))))
 
@@ -76,10 +75,11 @@ abbrev pub asBase : {A : Type 0} → Res A → Res A
 asBase (refused n k) = refused BASE k
 asBase (ok a) = ok a
 
--- RESULT: over the segments or the bytes that a CRI may have
+-- 5.5 RESULT: over the segments or the bytes that a CRI may have
 unfoldable pub fits : Limits → Cri → Bool
 fits lim c = leb (length (c .path)) (lim .segments) && leb (length (encode (reference c))) (lim .bytes)
 
+-- RULES 3.3: 8 for the base, then the reference's 1 to 7, then 9
 unfoldable pub resolved : Limits → Bytes → Bytes → Res Bytes
 resolved lim base ref = do
   b ← asBase (readAbsolute lim base)

@@ -1,4 +1,4 @@
--- The answer of a step of reading: a refusal, with its number and the place of the item at fault, or a value.
+-- The answer of a step: a refusal, with its number and the place of the item at fault (RULES 4.10), or a value.
 use Prim.Native.Nat.{ℕ}
 use mathlib.Core.Bool.{Bool, true, false}
 use mathlib.Core.Option.{Option, none, some}
@@ -9,7 +9,7 @@ pub data Res (A : Type 0) : Type 0 where
 
 infixl 20 _>>=_
 infixl 20 _>>_
--- the first refusal decides
+-- RULES 4.2: the first refusal decides
 unfoldable pub _>>=_ : {A B : Type 0} → Res A → (A → Res B) → Res B
 _>>=_ (refused n k) f = refused n k
 _>>=_ (ok a) f = f a
@@ -33,7 +33,7 @@ unfoldable pub if_then_else_ : {A : Type 0} → Bool → Res A → Res A → Res
 if_then_else_ true a b = a
 if_then_else_ false a b = b
 
--- ---- RULES 3: the refusal numbers
+-- ---- RULES 3.2: the refusal numbers
 
 -- bytes end inside the array; empty input
 abbrev pub CUT : ℕ

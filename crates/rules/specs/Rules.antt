@@ -1,5 +1,5 @@
 -- The rules of each sort of text, of all labels together, and the table of schemes.
-use Prim.Native.Nat.{ℕ, zero, suc, _+_, _*_}
+use Prim.Native.Nat.{ℕ, _+_, _*_}
 use mathlib.Core.Bool.{Bool, true, false, _&&_, _||_, not, cond}
 use mathlib.Core.List.{List, [], _∷_}
 use mathlib.Core.Option.{Option, none, some}
@@ -13,10 +13,11 @@ pub record Sort : Type 0 where
   pub high : ℕ
   pub rule : Bytes → Bool
 
+-- no rule
 abbrev pub free : Bytes → Bool
 free t = true
 
--- ---- RULES 1.4: the scheme numbers known here, their names and default ports
+-- ---- RULES 1.6: the scheme numbers known here, their names and default ports
 
 pub record SchemeEntry : Type 0 where
   pub number : ℕ
@@ -41,10 +42,11 @@ unfoldable pub schemeIn : List SchemeEntry → ℕ → Option SchemeEntry
 schemeIn [] n = none
 schemeIn (e ∷ es) n = cond (eqb n (e .number)) (some e) (schemeIn es n)
 
+-- the number is in the table
 unfoldable pub knownScheme : ℕ → Bool
 knownScheme n = any (λ (e : SchemeEntry). eqb n (e .number)) schemes
 
--- ---- RULES 1.5: a scheme given as text
+-- ---- RULES 1.7: a scheme given as text
 
 abbrev pub lower : ℕ → Bool
 lower b = within 0x61 0x7A b
@@ -66,7 +68,7 @@ startsLower (b ∷ bs) = lower b
 unfoldable pub schemeRule : Bytes → Bool
 schemeRule t = startsLower t && (all schemeByte t && all (λ (e : SchemeEntry). not (same t (e .name))) schemes)
 
--- ---- RULES 1.6: labels and segments
+-- ---- RULES 1.9, 1.10: labels and segments
 
 -- a label holds no "." and no A to Z
 unfoldable pub labelByte : ℕ → Bool
@@ -87,7 +89,7 @@ octet (a ∷ b ∷ c ∷ d ∷ r) = false
 unfoldable pub looksIPv4 : List Bytes → Bool
 looksIPv4 ts = eqb (length ts) 4 && all octet ts
 
--- together with their dots at most 255, and no IPv4 look
+-- 2.5 and 1.9: together with their dots at most 255, and no IPv4 look
 unfoldable pub nameRule : List Bytes → Bool
 nameRule ts = leb (length (join dot ts)) 255 && not (looksIPv4 ts)
 
@@ -95,7 +97,7 @@ nameRule ts = leb (length (join dot ts)) 255 && not (looksIPv4 ts)
 unfoldable pub segmentRule : Bytes → Bool
 segmentRule t = not (same t (ascii ".")) && not (same t (ascii ".."))
 
--- ---- RULES 2: the sizes of each sort
+-- ---- RULES 2.2 to 2.5, 2.7: the sizes of each sort
 
 abbrev pub schemeName : Sort
 schemeName = record { low = 1; high = 16; rule = schemeRule }

@@ -1,6 +1,6 @@
 -- RULES 6: the URI text of a CRI.
 use Prim.Native.Nat.{ℕ, _+_, _/_, _%_}
-use mathlib.Core.Bool.{Bool, true, false, not, cond, _&&_, _||_}
+use mathlib.Core.Bool.{Bool, not, cond, _&&_, _||_}
 use mathlib.Core.List.{List, [], _∷_, _++_, map}
 use mathlib.Core.Option.{Option, none, some, Option·map}
 use lib.Dec.{ltb, eqb}
@@ -12,14 +12,15 @@ use Rattle.rules.specs.Address.{addressText}
 
 -- ---- bytes that stand bare, and escapes
 
+-- where a byte stands
 pub data Class : Type 0 where
   Label Segment Parameter Fragment : Class
 
--- letters, digits, "-._~" and "!$&'()*+,;="
+-- 6.3: letters, digits, "-._~" and "!$&'()*+,;="
 abbrev pub plain : ℕ → Bool
 plain b = lower b || upper b || digit b || member b (ascii "-._~!$&'()*+,;=")
 
--- segments add ":" and "@"; parameters add "/" and "?" to that but lose "&"; fragments are as segments with "/" and "?"
+-- 6.3: segments add ":" and "@"; parameters add "/" and "?" to that but lose "&"; fragments are as segments with "/" and "?"
 unfoldable pub bare : Class → ℕ → Bool
 bare Label b = plain b
 bare Segment b = plain b || member b (ascii ":@")
@@ -30,7 +31,7 @@ bare Fragment b = plain b || member b (ascii ":@/?")
 unfoldable pub hexDigit : ℕ → ℕ
 hexDigit n = cond (ltb n 10) (0x30 + n) (0x37 + n)
 
--- every byte that is not bare is "%" and two upper-case hex digits
+-- 6.4: every byte that is not bare is "%" and two upper-case hex digits
 unfoldable pub escapeByte : Class → ℕ → Bytes
 escapeByte k b = cond (bare k b) (b ∷ []) (percent ∷ hexDigit (b / 16) ∷ hexDigit (b % 16) ∷ [])
 
@@ -38,7 +39,7 @@ unfoldable pub escape : Class → Bytes → Bytes
 escape k [] = []
 escape k (b ∷ bs) = escapeByte k b ++ escape k bs
 
--- ---- the text
+-- ---- 6.1: the text
 
 -- a mark and what follows it, where that is set
 unfoldable pub marked : ℕ → Option Bytes → Bytes
@@ -49,11 +50,12 @@ abbrev pub entryName : Option SchemeEntry → Bytes
 entryName none = []
 entryName (some e) = e .name
 
+-- 6.2: a scheme number prints as its name
 unfoldable pub schemeText : Scheme Bytes → Bytes
 schemeText (number n) = entryName (schemeIn schemes n)
 schemeText (name t) = t
 
--- labels are joined by "."
+-- 6.2: labels are joined by "."
 unfoldable pub hostText : Host Bytes → Bytes
 hostText (address bs) = addressText bs
 hostText (labels ls) = join dot (map (escape Label) ls)

@@ -1,7 +1,7 @@
--- RULES 1.7: UTF-8 (RFC 3629). The lead byte's range fixes how many bytes follow and which second bytes are allowed.
+-- RULES 1.11: UTF-8 (RFC 3629). The lead byte's range fixes how many bytes follow and which second bytes are allowed.
 use Prim.Native.Nat.{ℕ, zero, suc}
-use mathlib.Core.Bool.{Bool, true, false, _&&_, cond}
-use mathlib.Core.List.{List, [], _∷_}
+use mathlib.Core.Bool.{Bool, false, cond}
+use mathlib.Core.List.{[], _∷_}
 use lib.Dec.{ltb, eqb}
 use Rattle.rules.specs.Bytes.{Bytes, within}
 
@@ -10,6 +10,7 @@ pub data Lead : Type 0 where
   follow : ℕ → ℕ → ℕ → Lead
   wrong : Lead
 
+-- RFC 3629, section 4
 unfoldable pub leadOf : ℕ → Lead
 leadOf b =
     cond (ltb b 0x80) (follow 0 0x80 0xBF)
@@ -32,9 +33,11 @@ abbrev pub afterLead : Lead → (ℕ → ℕ → ℕ → Bool) → Bool
 afterLead (follow n low high) rest = rest n low high
 afterLead wrong rest = false
 
+-- so many bytes have still to follow, the next from low to high
 unfoldable pub utf8From : ℕ → ℕ → ℕ → Bytes → Bool
 utf8From n low high [] = eqb n 0
 utf8From n low high (b ∷ bs) = afterLead (leadFrom n low high b) (λ n l h. utf8From n l h bs)
 
+-- the bytes are UTF-8
 unfoldable pub utf8 : Bytes → Bool
 utf8 bs = utf8From 0 0x80 0xBF bs

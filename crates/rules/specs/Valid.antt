@@ -1,7 +1,7 @@
 -- References that keep the rules and the sizes, said of what they hold and not of how they are read.
 use Prim.Native.Nat.{ℕ, _≤_}
 use mathlib.Core.Path.{_≡_}
-use mathlib.Core.Bool.{Bool, true, _||_}
+use mathlib.Core.Bool.{true, _||_}
 use mathlib.Core.List.{List}
 use mathlib.Core.Option.{Option, none, some}
 use lib.ListN.{length}
@@ -17,20 +17,23 @@ abbrev pub If : {A : Type 0} → (A → Type 0) → Option A → Type 0
 If P none = Unit {0}
 If P (some a) = P a
 
--- a text that keeps its sort's rules
+-- a text that keeps its sort's size and rule, and is UTF-8
 pub record Good (s : Sort) (t : Bytes) : Type 0 where
   pub size : within (s .low) (s .high) (length t) ≡ true
   pub encoded : utf8 t ≡ true
   pub rule : s .rule t ≡ true
 
+-- so many texts of a sort
 pub record GoodTexts (s : Sort) (low high : ℕ) (ts : List Bytes) : Type 0 where
   pub count : within low high (length ts) ≡ true
   pub each : Each (Good s) ts
 
+-- 2.6
 pub record GoodAddress (a : Bytes) : Type 0 where
   pub size : (eqb (length a) 4 || eqb (length a) 16) ≡ true
   pub octets : Octets a
 
+-- 2.5
 pub record GoodLabels (ts : List Bytes) : Type 0 where
   pub texts : GoodTexts label 1 8 ts
   pub name : nameRule ts ≡ true
@@ -47,7 +50,7 @@ abbrev pub GoodScheme : Scheme Bytes → Type 0
 GoodScheme (number n) = knownScheme n ≡ true
 GoodScheme (name t) = Good schemeName t
 
--- an authority is required beside a scheme, or none
+-- 1.3: an authority is required
 abbrev pub GoodOpening : Opening Bytes → Type 0
 GoodOpening (discard k) = k ≤ 127
 GoodOpening discardAll = Unit {0}

@@ -1,0 +1,87 @@
+-- RULES 9: writing from components, and the components that reading reports.
+use Prim.Native.Nat.{ℕ, _+_}
+use mathlib.Core.Bool.{Bool, _&&_}
+use mathlib.Core.List.{List, [], _∷_, _++_}
+use mathlib.Core.Option.{Option, none, some}
+use lib.ListN.{length}
+use lib.Dec.{leb}
+use Rattle.rules.specs.Bytes.{Bytes, all}
+use Rattle.rules.specs.Result.{Res, refused, ok, need, _>>=_, _>>_, LIMIT}
+use Rattle.rules.specs.Model.{Scheme, number, name, Host, address, labels, Opening, discard, discardAll, full, Parts, Span, Components, mapParts, Limits, elements}
+use Rattle.rules.specs.Reader.{taken, Found, read}
+use Rattle.rules.specs.Meaning.{components}
+use Rattle.rules.specs.Encode.{encode}
+
+-- ---- the texts and addresses of the parts of a reference
+
+abbrev pub labelsOf : {A : Type 0} → Host A → List A
+labelsOf (address a) = []
+labelsOf (labels ts) = ts
+
+abbrev pub hostTexts : {A : Type 0} → Host A → List A
+hostTexts (address a) = a ∷ []
+hostTexts (labels ts) = ts
+
+abbrev pub schemeTexts : {A : Type 0} → Scheme A → List A
+schemeTexts (number n) = []
+schemeTexts (name t) = t ∷ []
+
+-- those of what is set
+abbrev pub textsOf : {A B : Type 0} → (A → List B) → Option A → List B
+textsOf f none = []
+textsOf f (some a) = f a
+
+abbrev pub openingTexts : {A : Type 0} → Opening A → List A
+openingTexts (discard k) = []
+openingTexts discardAll = []
+openingTexts (full s a) = textsOf schemeTexts s ++ textsOf (λ a. hostTexts (a .host)) a
+
+abbrev pub openingLabels : {A : Type 0} → Opening A → List A
+openingLabels (discard k) = []
+openingLabels discardAll = []
+openingLabels (full s a) = textsOf (λ a. labelsOf (a .host)) a
+
+abbrev pub allTexts : {A : Type 0} → Parts A → List A
+allTexts c = openingTexts (c .opening) ++ elements (c .path) ++ elements (c .query) ++ textsOf (λ t. t ∷ []) (c .fragment)
+
+-- ---- writing
+
+-- 9.2: at most 8 labels, 32 segments, 16 parameters
+unfoldable pub counted : Limits → Components → Bool
+counted lim c =
+    leb (length (openingLabels (c .opening))) 8
+    && (leb (length (elements (c .path))) (lim .segments) && leb (length (elements (c .query))) 16)
+
+-- 9.2: a span lies inside the lent bytes
+unfoldable pub inside : Bytes → Span → Bool
+inside lent s = leb (s .start + s .length) (length lent)
+
+-- a refusal of bytes that the call made up itself has no place in an input
+abbrev pub placeless : {A : Type 0} → Res A → Res A
+placeless (refused n k) = refused n 0
+placeless (ok a) = ok a
+
+-- 9.2, 9.3
+unfoldable pub written : Limits → Components → Bytes → Res Bytes
+written lim c lent = do
+  need (counted lim c) LIMIT 0
+  need (all (inside lent) (allTexts c)) LIMIT 0
+  placeless (read lim (encode (mapParts (taken lent) c)))
+  ok (encode (mapParts (taken lent) c))
+
+-- ---- reading
+
+pub record Reading : Type 0 where
+  pub number : ℕ
+  pub components : Components
+
+-- 9.5: a refused read reports every component unset
+abbrev pub noComponents : Components
+noComponents = record { opening = full none none; path = none; query = none; fragment = none }
+
+unfoldable pub readCall : Limits → Bytes → Reading
+readCall lim bs = reading (read lim bs)
+  where
+    reading : Res Found → Reading
+    reading (refused n k) = record { number = n; components = noComponents }
+    reading (ok f) = record { number = 0; components = components bs f }
