@@ -19,17 +19,17 @@ use Rattle.rules.specs.Encode.{textItem, arrayItem, portItems, hostItems
 use Rattle.rules.specs.Valid.{If, Good, GoodAddress, GoodLabels, GoodHost, GoodAuthority}
 use Rattle.rules.proofs.Tools.{never, by-test, or-left, or-right, within-low, within-high, is-within, length-part, octets-part}
 use Rattle.rules.proofs.Steps.{Ok, ok!, ok-bind, ok-map, ok-if, ok-need, Yes, yes!, yes-bind, yes-map, yes-then, yes-else, yes-need, Stable, same!, stable-bind, stable-bind-ok, stable-if, stable-need}
-use Rattle.rules.proofs.Heads.{is-kind, Stands, ok-head, yes-head, head-spells, next-inside, Wrote, wrote, head-stable, head-ok}
-use Rattle.rules.proofs.Texts.{contentAt, TextAt, ok-textBody, TextWas, good-64, yes-textBody, wrote-text, textBody-stable, ok-content, yes-content, content-stable, item-spells, item-was, Items, length-contents, contents-more}
+use Rattle.rules.proofs.Heads.{is-kind, Stands, ok-head, yes-head, head-spells, next-inside, Spelled, spelled, head-stable, head-ok}
+use Rattle.rules.proofs.Texts.{contentAt, TextAt, ok-textBody, TextWas, good-64, yes-textBody, spelled-text, textBody-stable, ok-content, yes-content, content-stable, item-spells, item-was, Items, length-contents, contents-more}
 use Rattle.rules.proofs.Slots.{item-one}
 
 -- what positions say
-abbrev pub hostOf : Bytes → HostAt → Host Bytes
-hostOf bs (addressAt at n) = address (taken bs (record { start = at; length = n }))
-hostOf bs (labelsAt at n) = labels (contents bs at n)
+abbrev pub saidHost : Bytes → HostAt → Host Bytes
+saidHost bs (addressAt at n) = address (taken bs (record { start = at; length = n }))
+saidHost bs (labelsAt at n) = labels (contents bs at n)
 
-abbrev pub authorityOf : Bytes → AuthorityAt → Authority Bytes
-authorityOf bs a = record { host = hostOf bs (a .host); port = a .port }
+abbrev pub saidAuthority : Bytes → AuthorityAt → Authority Bytes
+saidAuthority bs a = record { host = saidHost bs (a .host); port = a .port }
 
 -- ---- an authority that is accepted
 
@@ -115,9 +115,9 @@ ok-names bs at (suc left) n sm =
 
 -- the items of the authority, of which `left` stand after the first
 pub record InsideAt (bs : Bytes) (at left : ℕ) (a : AuthorityAt) : Type 0 where
-  pub spells : drop at bs ≡ concat (hostItems (hostOf bs (a .host)) ++ portItems (a .port)) ++ drop (a .next) bs
-  pub items : length (hostItems (hostOf bs (a .host)) ++ portItems (a .port)) ≡ suc left
-  pub host : GoodHost (hostOf bs (a .host))
+  pub spells : drop at bs ≡ concat (hostItems (saidHost bs (a .host)) ++ portItems (a .port)) ++ drop (a .next) bs
+  pub items : length (hostItems (saidHost bs (a .host)) ++ portItems (a .port)) ≡ suc left
+  pub host : GoodHost (saidHost bs (a .host))
   pub port : GoodPort (a .port)
   pub inside : a .next ≤ length bs
 
@@ -172,8 +172,8 @@ ok-labelsHost bs start at left sm r e =
         }
 
 pub record AuthorityIs (bs : Bytes) (at : ℕ) (a : AuthorityAt) : Type 0 where
-  pub spells : drop at bs ≡ authorityItem (authorityOf bs a) ++ drop (a .next) bs
-  pub good : GoodAuthority (authorityOf bs a)
+  pub spells : drop at bs ≡ authorityItem (saidAuthority bs a) ++ drop (a .next) bs
+  pub good : GoodAuthority (saidAuthority bs a)
   pub inside : a .next ≤ length bs
 
 authority-is : {allowed : Kind → Bool} (bs : Bytes) (at : ℕ) (a : AuthorityAt) → Octets bs → Stands allowed bs at → kindAt bs at ≡ Array → within 1 9 (headAt bs at .value) ≡ true
@@ -181,7 +181,7 @@ authority-is : {allowed : Kind → Bool} (bs : Bytes) (at : ℕ) (a : AuthorityA
 unfolding authorityItem arrayItem
 authority-is bs at a sm r e w i =
     let h : Head = headAt bs at in
-    let items : List Bytes = hostItems (hostOf bs (a .host)) ++ portItems (a .port) in
+    let items : List Bytes = hostItems (saidHost bs (a .host)) ++ portItems (a .port) in
     let n : length items ≡ h .value = omega (arith, i .items, within-low 1 9 (h .value) w) in
     record {
       spells = head-spells bs at sm r Array tt e
@@ -209,11 +209,11 @@ pub first-item : (x : Bytes) (xs : List Bytes) (l rest : Bytes) → l ≡ concat
 unfolding concat
 first-item x xs l rest e = e ∙ append-assoc x (concat xs) rest
 
-wrote-port : (v : ℕ) (bs : Bytes) (at : ℕ) (rest : Bytes) → v ≤ 65535 → drop at bs ≡ concat (portItems (some v)) ++ rest → Wrote Number v bs at rest
+spelled-port : (v : ℕ) (bs : Bytes) (at : ℕ) (rest : Bytes) → v ≤ 65535 → drop at bs ≡ concat (portItems (some v)) ++ rest → Spelled Number v bs at rest
 unfolding portItems
-wrote-port v bs at rest g e = wrote Number v bs at rest (omega arith) (item-one (headBytes Number v) _ rest e)
+spelled-port v bs at rest g e = spelled Number v bs at rest (omega arith) (item-one (headBytes Number v) _ rest e)
 
-yes-portBody : (v n : ℕ) (bs : Bytes) (at : ℕ) (rest : Bytes) → v ≤ 65535 → Wrote Number v bs at rest
+yes-portBody : (v n : ℕ) (bs : Bytes) (at : ℕ) (rest : Bytes) → v ≤ 65535 → Spelled Number v bs at rest
     → Yes (λ r. (r .count ≡ n) × PortWas (some v) bs rest r) (portBody bs at 0 n (headAt bs at))
 unfolding portBody readNothing _>>=_
 yes-portBody v n bs at rest g w =
@@ -225,7 +225,7 @@ yes-port : (o : Option ℕ) (bs : Bytes) (at : ℕ) (rest : Bytes) → GoodPort 
 unfolding readPort portItems concat codeOf
 yes-port none bs at rest g e = yes! (record { says = refl; after = e })
 yes-port (some v) bs at rest g e =
-    let w = wrote-port v bs at rest g e in
+    let w = spelled-port v bs at rest g e in
     yes-head _ _ _ _ (w .stands (is Number) refl) (yes-map (yes-portBody v 0 bs at rest g w) (λ r p. p .1))
 
 pub record NamesWas (ts : List Bytes) (n : ℕ) (o : Option ℕ) (bs : Bytes) (at : ℕ) (rest : Bytes) (r : Names) : Type 0 where
@@ -237,7 +237,7 @@ pub record NamesWas (ts : List Bytes) (n : ℕ) (o : Option ℕ) (bs : Bytes) (a
 label-64 : (t : Bytes) → Good label t → length t < 2 ^ 64
 label-64 t g = good-64 {s = label} (lit< tt) t g
 
-yes-labelBody : (n : ℕ) (t bs : Bytes) (at : ℕ) (rest : Bytes) → n < 8 → Wrote Text (length t) bs at (t ++ rest) → Good label t
+yes-labelBody : (n : ℕ) (t bs : Bytes) (at : ℕ) (rest : Bytes) → n < 8 → Spelled Text (length t) bs at (t ++ rest) → Good label t
     → Yes (λ next. TextWas t bs at rest next) (labelBody n bs at (headAt bs at))
 unfolding labelBody
 yes-labelBody n t bs at rest h w g = yes-need _ _ _ _ (lt-ltb _ _ h) (yes-textBody label t bs at rest w g)
@@ -248,13 +248,13 @@ yes-names : (ts : List Bytes) (n : ℕ) (o : Option ℕ) (bs : Bytes) (at : ℕ)
 unfolding readNames contents spans concat portItems codeOf
 yes-names [] n none bs at rest l g p e = yes! (record { count = sym (add-zero n); says = refl; port = refl; after = e })
 yes-names [] n (some v) bs at rest l g p e =
-    let w = wrote-port v bs at rest p e in
+    let w = spelled-port v bs at rest p e in
     yes-head _ _ _ _ (w .stands (λ k. is Text k || is Number k) refl)
     (yes-else _ _ _ (subst (λ (k : Kind). not (is Text k) ≡ true) (sym (w .kind)) refl)
     (yes-map (yes-portBody v n bs at rest p w) (λ r q. record { count = q .0 ∙ sym (add-zero n); says = refl; port = q .1 .says; after = q .1 .after })))
 yes-names (t ∷ ts) n o bs at rest l g p e =
     let others : List Bytes = map textItem ts ++ portItems o in
-    let w = wrote-text t bs at (concat others ++ rest) (label-64 t (g .0)) (first-item (textItem t) others _ rest e) in
+    let w = spelled-text t bs at (concat others ++ rest) (label-64 t (g .0)) (first-item (textItem t) others _ rest e) in
     yes-head _ _ _ _ (w .stands (λ k. is Text k || is Number k) refl)
     (yes-then _ _ _ (subst (λ (k : Kind). is Text k ≡ true) (sym (w .kind)) refl)
     (yes-bind _ _ (yes-labelBody n t bs at (concat others ++ rest) (omega arith) w (g .0)) (λ mid x.
@@ -267,7 +267,7 @@ yes-names (t ∷ ts) n o bs at rest l g p e =
     }))))
 
 pub record AuthorityWas (a : Authority Bytes) (bs rest : Bytes) (r : AuthorityAt) : Type 0 where
-  pub says : authorityOf bs r ≡ a
+  pub says : saidAuthority bs r ≡ a
   pub after : drop (r .next) bs ≡ rest
 
 -- an authority is its host and its port
@@ -275,7 +275,7 @@ pub same-authority : {h h′ : Host Bytes} {o o′ : Option ℕ} → h ≡ h′ 
 same-authority e e′ = λ i. record { host = e i; port = e′ i }
 
 yes-addressHost : (x : Bytes) (o : Option ℕ) (bs : Bytes) (start at left : ℕ) (rest : Bytes) → GoodAddress x → GoodPort o → left ≡ length (portItems o)
-    → Wrote ByteString (length x) bs at (x ++ (concat (portItems o) ++ rest))
+    → Spelled ByteString (length x) bs at (x ++ (concat (portItems o) ++ rest))
     → Yes (λ r. AuthorityWas (record { host = address x; port = o }) bs rest r) (addressHost bs start at left (headAt bs at))
 unfolding addressHost
 yes-addressHost x o bs start at left rest g p n w =
@@ -287,7 +287,7 @@ yes-addressHost x o bs start at left rest g p n w =
 
 yes-labelsHost : (t : Bytes) (ts : List Bytes) (o : Option ℕ) (bs : Bytes) (start at left : ℕ) (rest : Bytes) → GoodLabels (t ∷ ts) → GoodPort o
     → left ≡ length (map textItem ts ++ portItems o)
-    → Wrote Text (length t) bs at (t ++ (concat (map textItem ts ++ portItems o) ++ rest))
+    → Spelled Text (length t) bs at (t ++ (concat (map textItem ts ++ portItems o) ++ rest))
     → Yes (λ r. AuthorityWas (record { host = labels (t ∷ ts); port = o }) bs rest r) (labelsHost bs start at left (headAt bs at))
 unfolding labelsHost contents spans
 yes-labelsHost t ts o bs start at left rest g p n w =
@@ -299,9 +299,9 @@ yes-labelsHost t ts o bs start at left rest g p n w =
     yes-need _ _ _ _ (subst (λ (l : List Bytes). nameRule l ≡ true) (sym cs) (g .name))
     (yes! (record { says = same-authority (ap labels cs) (y .port); after = y .after })))))
 
-pub wrote-array : (xs : List Bytes) (bs : Bytes) (at : ℕ) (rest : Bytes) → length xs < 2 ^ 64 → drop at bs ≡ arrayItem xs ++ rest → Wrote Array (length xs) bs at (concat xs ++ rest)
+pub spelled-array : (xs : List Bytes) (bs : Bytes) (at : ℕ) (rest : Bytes) → length xs < 2 ^ 64 → drop at bs ≡ arrayItem xs ++ rest → Spelled Array (length xs) bs at (concat xs ++ rest)
 unfolding arrayItem
-wrote-array xs bs at rest f e = wrote Array (length xs) bs at (concat xs ++ rest) f (e ∙ append-assoc (headBytes Array (length xs)) (concat xs) rest)
+spelled-array xs bs at rest f e = spelled Array (length xs) bs at (concat xs ++ rest) f (e ∙ append-assoc (headBytes Array (length xs)) (concat xs) rest)
 
 port-items : (o : Option ℕ) → length (portItems o) ≤ 1
 unfolding portItems
@@ -333,14 +333,14 @@ yes-inside : (h : Host Bytes) (o : Option ℕ) (bs : Bytes) (start at left : ℕ
     (readHead (λ k. is ByteString k || is Text k) bs at >>= (λ f. if is Text (f .kind) then labelsHost bs start at left f else addressHost bs start at left f))
 unfolding hostItems codeOf
 yes-inside (address x) o bs start at left rest g p n e =
-    let w = wrote ByteString (length x) bs at (x ++ (concat (portItems o) ++ rest)) (omega (arith, address-size x g))
+    let w = spelled ByteString (length x) bs at (x ++ (concat (portItems o) ++ rest)) (omega (arith, address-size x g))
     (first-item (headBytes ByteString (length x) ++ x) (portItems o) _ rest e ∙ append-assoc (headBytes ByteString (length x)) x (concat (portItems o) ++ rest)) in
     yes-head _ _ _ _ (w .stands (λ k. is ByteString k || is Text k) refl)
     (yes-else _ _ _ (subst (λ (k : Kind). not (is Text k) ≡ true) (sym (w .kind)) refl) (yes-addressHost x o bs start at left rest g p (omega (arith, n)) w))
 yes-inside (labels []) o bs start at left rest g p n e = never (g .texts .count)
 yes-inside (labels (t ∷ ts)) o bs start at left rest g p n e =
     let others : List Bytes = map textItem ts ++ portItems o in
-    let w = wrote-text t bs at (concat others ++ rest) (label-64 t (g .texts .each .0)) (first-item (textItem t) others _ rest e) in
+    let w = spelled-text t bs at (concat others ++ rest) (label-64 t (g .texts .each .0)) (first-item (textItem t) others _ rest e) in
     yes-head _ _ _ _ (w .stands (λ k. is ByteString k || is Text k) refl)
     (yes-then _ _ _ (subst (λ (k : Kind). is Text k ≡ true) (sym (w .kind)) refl) (yes-labelsHost t ts o bs start at left rest g p (omega (arith, n)) w))
 
@@ -350,7 +350,7 @@ unfolding readAuthority authorityItem codeOf
 yes-authority a bs at rest g e =
     let items : List Bytes = hostItems (a .host) ++ portItems (a .port) in
     let c = items-count a g in
-    let w = wrote-array items bs at rest (omega (arith, c .1)) e in
+    let w = spelled-array items bs at rest (omega (arith, c .1)) e in
     let v : ℕ = headAt bs at .value in
     yes-head _ _ _ _ (w .stands (is Array) refl)
     (yes-need _ _ _ _ (is-within 1 9 v (omega (arith, c .0, w .value)) (omega (arith, c .1, w .value)))

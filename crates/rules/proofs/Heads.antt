@@ -255,16 +255,16 @@ kind-back True v i f h e = ap (λ (j : ℕ). kindOf (7 * 32 + j)) (e ∙ ap shor
 kind-back Null v i f h e = ap (λ (j : ℕ). kindOf (7 * 32 + j)) (e ∙ ap shortest f)
 
 -- what was written is what stands there
-pub record Wrote (k : Kind) (v : ℕ) (bs : Bytes) (at : ℕ) (after : Bytes) : Type 0 where
+pub record Spelled (k : Kind) (v : ℕ) (bs : Bytes) (at : ℕ) (after : Bytes) : Type 0 where
   pub kind : headAt bs at .kind ≡ k
   pub value : headAt bs at .value ≡ v
   pub rest : drop (headAt bs at .next) bs ≡ after
   pub inside : headAt bs at .next ≤ length bs
   pub stands : (allowed : Kind → Bool) → allowed k ≡ true → Stands allowed bs at
 
-pub wrote : (k : Kind) (v : ℕ) (bs : Bytes) (at : ℕ) (rest : Bytes) → Fits k v → drop at bs ≡ headBytes k v ++ rest → Wrote k v bs at rest
+pub spelled : (k : Kind) (v : ℕ) (bs : Bytes) (at : ℕ) (rest : Bytes) → Fits k v → drop at bs ≡ headBytes k v ++ rest → Spelled k v bs at rest
 unfolding headAt headBytes
-wrote k v bs at rest f e =
+spelled k v bs at rest f e =
     let back : Back v (shortest v) = short-back v (fits-64 k v f) in
     let i : ℕ = shortest v in
     let w : ℕ = width i in

@@ -17,21 +17,21 @@ use Rattle.rules.specs.Encode.{authorityItem, schemeItem, orNull, trueIt
 use Rattle.rules.specs.Valid.{If, GoodAuthority, GoodScheme, GoodOpening}
 use Rattle.rules.proofs.Tools.{never, by-test, and-left, and-right}
 use Rattle.rules.proofs.Steps.{Ok, no!, ok!, ok-bind, ok-need, Yes, yes!, yes-bind, yes-need, Stable, same!, stable-bind, stable-need}
-use Rattle.rules.proofs.Heads.{small-value, Stands, ok-head, yes-head, head-spells, next-inside, Wrote, wrote, head-stable, Lead, lead}
-use Rattle.rules.proofs.Texts.{ok-textBody, good-64, yes-textBody, wrote-text, textBody-stable}
-use Rattle.rules.proofs.Slots.{null-spells, wrote-null, one-item, item-one}
-use Rattle.rules.proofs.Authorities.{authorityOf, ok-authority, yes-authority, authority-stable, cons-spells, first-item}
+use Rattle.rules.proofs.Heads.{small-value, Stands, ok-head, yes-head, head-spells, next-inside, Spelled, spelled, head-stable, Lead, lead}
+use Rattle.rules.proofs.Texts.{ok-textBody, good-64, yes-textBody, spelled-text, textBody-stable}
+use Rattle.rules.proofs.Slots.{null-spells, spelled-null, one-item, item-one}
+use Rattle.rules.proofs.Authorities.{saidAuthority, ok-authority, yes-authority, authority-stable, cons-spells, first-item}
 
 -- what positions say
-abbrev pub schemeOf : Bytes → SchemeAt → Option (Scheme Bytes)
-schemeOf bs noScheme = none
-schemeOf bs (numberAt n) = some (number n)
-schemeOf bs (nameAt at n) = some (name (taken bs (record { start = at; length = n })))
+abbrev pub saidScheme : Bytes → SchemeAt → Option (Scheme Bytes)
+saidScheme bs noScheme = none
+saidScheme bs (numberAt n) = some (number n)
+saidScheme bs (nameAt at n) = some (name (taken bs (record { start = at; length = n })))
 
-abbrev pub openingOf : Bytes → OpeningAt → Opening Bytes
-openingOf bs (discardAt k) = discard k
-openingOf bs discardAllAt = discardAll
-openingOf bs (fullAt s a) = full (schemeOf bs s) (some (authorityOf bs a))
+abbrev pub saidOpening : Bytes → OpeningAt → Opening Bytes
+saidOpening bs (discardAt k) = discard k
+saidOpening bs discardAllAt = discardAll
+saidOpening bs (fullAt s a) = full (saidScheme bs s) (some (saidAuthority bs a))
 
 -- an opening, where the array has so many items, of which so many are left after the opening
 pub data Opens : ℕ → Opening Bytes → ℕ → Type 0 where
@@ -65,9 +65,9 @@ with-items n left o (x ∷ xs) (full! h) e = (refl, omega arith)
 -- ---- an opening that is accepted
 
 pub record OpenedAt (bs : Bytes) (at n : ℕ) (o : Opened) : Type 0 where
-  pub spells : drop at bs ≡ concat (openItems n (openingOf bs (o .opening))) ++ drop (o .next) bs
-  pub opens : Opens n (openingOf bs (o .opening)) (o .left)
-  pub good : GoodOpening (openingOf bs (o .opening))
+  pub spells : drop at bs ≡ concat (openItems n (saidOpening bs (o .opening))) ++ drop (o .next) bs
+  pub opens : Opens n (saidOpening bs (o .opening)) (o .left)
+  pub good : GoodOpening (saidOpening bs (o .opening))
   pub inside : at ≤ length bs → o .next ≤ length bs
 
 number-opens : (n v : ℕ) → leb (suc n) 4 ≡ true → not (eqb (suc n) 1 && eqb v 0) ≡ true → Opens (suc n) (discard v) (suc n - 1)
@@ -83,15 +83,15 @@ unfolding headBytes majorOf shortest width bigEndian
 true-bytes = refl
 
 ok-afterScheme : (bs : Bytes) (at n : ℕ) (s : SchemeAt) (next : ℕ) → Octets bs → n ≤ 4
-    → drop at bs ≡ orNull schemeItem (schemeOf bs s) ++ drop next bs → If GoodScheme (schemeOf bs s)
+    → drop at bs ≡ orNull schemeItem (saidScheme bs s) ++ drop next bs → If GoodScheme (saidScheme bs s)
     → Ok (λ o. OpenedAt bs at (suc n) o) (afterScheme bs at (suc n) s next)
 unfolding afterScheme
 ok-afterScheme bs at zero s next sm m e g = ok-need _ _ _ _ (λ w. never w)
 ok-afterScheme bs at (suc n) s next sm m e g =
     ok-need _ _ _ _ (λ w. ok-bind _ _ (ok-authority bs next sm) (λ a q.
     ok! (record {
-      spells = cons-spells (orNull schemeItem (schemeOf bs s)) (authorityItem (authorityOf bs a) ∷ []) _ _ (drop (a .next) bs) e (one-item (authorityItem (authorityOf bs a)) _ _ (q .spells));
-      opens = subst (λ (l : ℕ). Opens (suc (suc n)) (full (schemeOf bs s) (some (authorityOf bs a))) l) (two n) (full! (omega arith));
+      spells = cons-spells (orNull schemeItem (saidScheme bs s)) (authorityItem (saidAuthority bs a) ∷ []) _ _ (drop (a .next) bs) e (one-item (authorityItem (saidAuthority bs a)) _ _ (q .spells));
+      opens = subst (λ (l : ℕ). Opens (suc (suc n)) (full (saidScheme bs s) (some (saidAuthority bs a))) l) (two n) (full! (omega arith));
       good = (g, q .good);
       inside = λ i. q .inside;
     })))
@@ -135,7 +135,7 @@ ok-opening bs at (suc n) sm m = ok-head _ _ _ _ (λ r. ok-openingBody (kindAt bs
 -- ---- an opening that was written is accepted
 
 pub record OpenedWas (o : Opening Bytes) (n : ℕ) (bs rest : Bytes) (r : Opened) : Type 0 where
-  pub says : openingOf bs (r .opening) ≡ o
+  pub says : saidOpening bs (r .opening) ≡ o
   pub left : r .left ≡ n
   pub after : drop (r .next) bs ≡ rest
 
@@ -154,7 +154,7 @@ rest-left : (k n left : ℕ) → Opens (suc n) (discard k) left → suc n - 1 �
 rest-left k n left alone = refl
 rest-left k n left (before h) = omega arith
 
-yes-number : (k n left : ℕ) (bs : Bytes) (at : ℕ) (rest : Bytes) → k ≤ 127 → Opens (suc n) (discard k) left → Wrote Number k bs at rest
+yes-number : (k n left : ℕ) (bs : Bytes) (at : ℕ) (rest : Bytes) → k ≤ 127 → Opens (suc n) (discard k) left → Spelled Number k bs at rest
     → Yes (λ r. OpenedWas (discard k) left bs rest r) (openingBody bs at (suc n) (headAt bs at) Number)
 unfolding openingBody
 yes-number k n left bs at rest g o w =
@@ -164,7 +164,7 @@ yes-number k n left bs at rest g o w =
     (yes! (record { says = ap discard (w .value); left = rest-left k n left o; after = w .rest }))))
 
 yes-afterScheme : (o : Option (Scheme Bytes)) (a : Authority Bytes) (left : ℕ) (bs : Bytes) (at : ℕ) (s : SchemeAt) (next : ℕ) (rest : Bytes) → GoodAuthority a
-    → schemeOf bs s ≡ o → drop next bs ≡ authorityItem a ++ rest
+    → saidScheme bs s ≡ o → drop next bs ≡ authorityItem a ++ rest
     → Yes (λ r. OpenedWas (full o (some a)) left bs rest r) (afterScheme bs at (suc (suc left)) s next)
 unfolding afterScheme
 yes-afterScheme o a left bs at s next rest g es e =
@@ -173,7 +173,7 @@ yes-afterScheme o a left bs at s next rest g es e =
     yes! (record { says = ap₂ full es (ap some (q .says)); left = omega arith; after = q .after })))
 
 -- an opening item of this kind was written
-yes-kind : {P : Opened → Type 0} (k : Kind) (v : ℕ) (bs : Bytes) (at n : ℕ) (rest : Bytes) → opens k ≡ true → Wrote k v bs at rest
+yes-kind : {P : Opened → Type 0} (k : Kind) (v : ℕ) (bs : Bytes) (at n : ℕ) (rest : Bytes) → opens k ≡ true → Spelled k v bs at rest
     → Yes P (openingBody bs at (suc n) (headAt bs at) k) → Yes P (readOpening bs at (suc n))
 unfolding readOpening
 yes-kind {P} k v bs at n rest t w y =
@@ -197,34 +197,34 @@ yes-scheme : (o : Option (Scheme Bytes)) (a : Authority Bytes) (left : ℕ) (bs 
     → Yes (λ r. OpenedWas (full o (some a)) left bs rest r) (readOpening bs at (suc (suc left)))
 unfolding orNull schemeItem openingBody codeOf
 yes-scheme none a left bs at rest g ga e =
-    let w = wrote-null bs at (authorityItem a ++ rest) e in
+    let w = spelled-null bs at (authorityItem a ++ rest) e in
     yes-kind Null 22 bs at (suc left) _ refl w (yes-afterScheme none a left bs at noScheme (headAt bs at .next) rest ga refl (w .rest))
 yes-scheme (some (number n)) a left bs at rest g ga e =
-    let w = wrote Negative n bs at (authorityItem a ++ rest) (omega (arith, known-below n g)) e in
+    let w = spelled Negative n bs at (authorityItem a ++ rest) (omega (arith, known-below n g)) e in
     yes-kind Negative n bs at (suc left) _ refl w
     (yes-need _ _ _ _ (subst (λ (v : ℕ). knownScheme v ≡ true) (sym (w .value)) g)
     (yes-afterScheme (some (number n)) a left bs at (numberAt (headAt bs at .value)) (headAt bs at .next) rest ga (ap (λ (v : ℕ). some (number v)) (w .value)) (w .rest)))
 yes-scheme (some (name t)) a left bs at rest g ga e =
-    let w = wrote-text t bs at (authorityItem a ++ rest) (good-64 {s = schemeName} (lit< tt) t g) e in
+    let w = spelled-text t bs at (authorityItem a ++ rest) (good-64 {s = schemeName} (lit< tt) t g) e in
     yes-kind Text (length t) bs at (suc left) _ refl w
     (yes-bind _ _ (yes-textBody schemeName t bs at (authorityItem a ++ rest) w g) (λ next x.
     yes-afterScheme (some (name t)) a left bs at (nameAt (headAt bs at .next) (headAt bs at .value)) next rest ga (ap (λ (z : Bytes). some (name z)) (x .says)) (x .after)))
 
-wrote-true : (bs : Bytes) (at : ℕ) (rest : Bytes) → drop at bs ≡ trueItem ++ rest → Wrote True 21 bs at rest
-wrote-true bs at rest e = wrote True 21 bs at rest refl (e ∙ ap (λ (x : Bytes). x ++ rest) (sym true-bytes))
+spelled-true : (bs : Bytes) (at : ℕ) (rest : Bytes) → drop at bs ≡ trueItem ++ rest → Spelled True 21 bs at rest
+spelled-true bs at rest e = spelled True 21 bs at rest refl (e ∙ ap (λ (x : Bytes). x ++ rest) (sym true-bytes))
 
 pub yes-opening : (n left : ℕ) (o : Opening Bytes) (bs : Bytes) (at : ℕ) (rest : Bytes) → Opens n o left → GoodOpening o → drop at bs ≡ concat (openItems n o) ++ rest
     → Yes (λ r. OpenedWas o left bs rest r) (readOpening bs at n)
 unfolding readOpening codeOf openingBody concat
 yes-opening n left o bs at rest empty g e = yes! (record { says = refl; left = refl; after = e })
 yes-opening n left o bs at rest (alone {k = k}) g e =
-    let w = wrote Number (suc k) bs at rest (omega arith) (item-one (headBytes Number (suc k)) _ _ e) in
+    let w = spelled Number (suc k) bs at rest (omega arith) (item-one (headBytes Number (suc k)) _ _ e) in
     yes-kind Number (suc k) bs at 0 rest refl w (yes-number (suc k) 0 0 bs at rest g alone w)
 yes-opening n left o bs at rest (before {k = k} {left = l} h) g e =
-    let w = wrote Number k bs at rest (omega arith) (item-one (headBytes Number k) _ _ e) in
+    let w = spelled Number k bs at rest (omega arith) (item-one (headBytes Number k) _ _ e) in
     yes-kind Number k bs at (suc l) rest refl w (yes-number k (suc l) (suc l) bs at rest g (before h) w)
 yes-opening n left o bs at rest (all! {left = l} h) g e =
-    let w = wrote-true bs at rest (item-one trueItem _ _ e) in
+    let w = spelled-true bs at rest (item-one trueItem _ _ e) in
     yes-kind True 21 bs at l rest refl w
     (yes-need _ _ _ _ (le-leb (suc l) 4 (omega arith)) (yes! (record { says = refl; left = omega arith; after = w .rest })))
 yes-opening n left o bs at rest (full! {s = s} {a = a} {left = l} h) g e =

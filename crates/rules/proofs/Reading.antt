@@ -22,9 +22,9 @@ use Rattle.rules.specs.Valid.{Good, GoodTexts, Valid}
 use Rattle.rules.proofs.Tools.{concat-append}
 use Rattle.rules.proofs.Steps.{Ok, ok!, ok-bind, ok-need, Yes, yes!, yes-bind, yes-need, yes-use, Kept, kept-bind, kept-need, kept-last, kept-both, kept-refused, kept-accepted, bind-ok}
 use Rattle.rules.proofs.Heads.{is-kind, Stands, ok-head, yes-head, head-ok, head-spells, next-inside, head-stable}
-use Rattle.rules.proofs.Slots.{textsOf, textOf, Last, written, SlotIs, ok-array, ok-fragment, yes-array, yes-fragment, array-stable, fragment-stable, three, tail-three}
-use Rattle.rules.proofs.Authorities.{hostOf, same-authority, wrote-array}
-use Rattle.rules.proofs.Openings.{schemeOf, openingOf, Opens, openItems, with-items, OpenedAt, ok-opening, yes-opening, opening-stable, opens-left, opens-count, opens-of}
+use Rattle.rules.proofs.Slots.{saidTexts, saidText, Last, written, SlotIs, ok-array, ok-fragment, yes-array, yes-fragment, array-stable, fragment-stable, three, tail-three}
+use Rattle.rules.proofs.Authorities.{saidHost, same-authority, spelled-array}
+use Rattle.rules.proofs.Openings.{saidScheme, saidOpening, Opens, openItems, with-items, OpenedAt, ok-opening, yes-opening, opening-stable, opens-left, opens-count, opens-of}
 
 -- a reference is its four parts
 pub same-reference : {o o′ : Opening Bytes} {p p′ q q′ : Option (List Bytes)} {f f′ : Option Bytes} → o ≡ o′ → p ≡ p′ → q ≡ q′ → f ≡ f′
@@ -33,24 +33,24 @@ same-reference a b c d = λ i. record { opening = a i; path = b i; query = c i; 
 
 -- what positions say is their meaning
 abbrev said : Bytes → OpeningAt → Slot → Slot → Slot → Reference
-said bs o p q f = record { opening = openingOf bs o; path = textsOf bs p; query = textsOf bs q; fragment = textOf bs f }
+said bs o p q f = record { opening = saidOpening bs o; path = saidTexts bs p; query = saidTexts bs q; fragment = saidText bs f }
 
 -- ---- canonical
 
-join : (xs ys : List Bytes) (l₀ l₁ l₂ : Bytes) → l₀ ≡ concat xs ++ l₁ → l₁ ≡ concat ys ++ l₂ → l₀ ≡ concat (xs ++ ys) ++ l₂
-join xs ys l₀ l₁ l₂ a b =
+link : (xs ys : List Bytes) (l₀ l₁ l₂ : Bytes) → l₀ ≡ concat xs ++ l₁ → l₁ ≡ concat ys ++ l₂ → l₀ ≡ concat (xs ++ ys) ++ l₂
+link xs ys l₀ l₁ l₂ a b =
     a ∙ ap (λ (l : Bytes). concat xs ++ l) b ∙ sym (append-assoc (concat xs) (concat ys) l₂) ∙ ap (λ (l : Bytes). l ++ l₂) (sym (concat-append xs ys))
 
 -- four runs of items, one after the other
 chain : (xs ys zs ws : List Bytes) (l₀ l₁ l₂ l₃ l₄ : Bytes) → l₀ ≡ concat xs ++ l₁ → l₁ ≡ concat ys ++ l₂ → l₂ ≡ concat zs ++ l₃ → l₃ ≡ concat ws ++ l₄
     → l₀ ≡ concat (xs ++ (ys ++ (zs ++ ws))) ++ l₄
-chain xs ys zs ws l₀ l₁ l₂ l₃ l₄ a b c d = join xs _ l₀ l₁ l₄ a (join ys _ l₁ l₂ l₄ b (join zs ws l₂ l₃ l₄ c d))
+chain xs ys zs ws l₀ l₁ l₂ l₃ l₄ a b c d = link xs _ l₀ l₁ l₄ a (link ys _ l₁ l₂ l₄ b (link zs ws l₂ l₃ l₄ c d))
 
 all-said : (lim : Limits) (bs : Bytes) (o : Opened) (p q f : SlotAt)
     → Octets bs → length bs ≤ lim .bytes → Stands (is Array) bs 0 → OpenedAt bs (headAt bs 0 .next) (headAt bs 0 .value) o
-    → SlotIs textsItem (GoodTexts segment 0 (lim .segments)) bs (o .next) (o .left) (textsOf bs (p .slot)) (p .next)
-    → SlotIs textsItem (GoodTexts parameter 1 16) bs (p .next) (o .left - 1) (textsOf bs (q .slot)) (q .next)
-    → SlotIs textItem (Good fragmentText) bs (q .next) (o .left - 2) (textOf bs (f .slot)) (f .next)
+    → SlotIs textsItem (GoodTexts segment 0 (lim .segments)) bs (o .next) (o .left) (saidTexts bs (p .slot)) (p .next)
+    → SlotIs textsItem (GoodTexts parameter 1 16) bs (p .next) (o .left - 1) (saidTexts bs (q .slot)) (q .next)
+    → SlotIs textItem (Good fragmentText) bs (q .next) (o .left - 2) (saidText bs (f .slot)) (f .next)
     → length bs ≤ f .next
     → (encode (said bs (o .opening) (p .slot) (q .slot) (f .slot)) ≡ bs) × Valid lim (said bs (o .opening) (p .slot) (q .slot) (f .slot))
 unfolding encode arrayItem
@@ -72,26 +72,26 @@ all-said lim bs o p q f sm size r oa pa qa fa end =
     let same : encode s ≡ bs = enc ∙ sym (head-spells bs 0 sm r Array tt (is-kind Array (kindAt bs 0) (r .kind)) ∙ ap (λ (l : Bytes). headBytes Array (h .value) ++ l) inside) in
     (same, record { opening = oa .good; path = pa .good; query = qa .good; fragment = fa .good; size = omega (arith, ap length same, size) })
 
-texts-said : (bs : Bytes) (p : Slot) → Option·map (map (taken bs)) (textSpans bs p) ≡ textsOf bs p
+texts-said : (bs : Bytes) (p : Slot) → Option·map (map (taken bs)) (textSpans bs p) ≡ saidTexts bs p
 unfolding contents
 texts-said bs unset = refl
 texts-said bs (set at n) = refl
 
-text-said : (bs : Bytes) (p : Slot) → Option·map (taken bs) (textSpan p) ≡ textOf bs p
+text-said : (bs : Bytes) (p : Slot) → Option·map (taken bs) (textSpan p) ≡ saidText bs p
 text-said bs unset = refl
 text-said bs (set at n) = refl
 
-scheme-said : (bs : Bytes) (s : SchemeAt) → Option·map (mapScheme (taken bs)) (schemeSpan s) ≡ schemeOf bs s
+scheme-said : (bs : Bytes) (s : SchemeAt) → Option·map (mapScheme (taken bs)) (schemeSpan s) ≡ saidScheme bs s
 scheme-said bs noScheme = refl
 scheme-said bs (numberAt n) = refl
 scheme-said bs (nameAt at n) = refl
 
-host-said : (bs : Bytes) (h : HostAt) → mapHost (taken bs) (hostSpans bs h) ≡ hostOf bs h
+host-said : (bs : Bytes) (h : HostAt) → mapHost (taken bs) (hostSpans bs h) ≡ saidHost bs h
 unfolding contents
 host-said bs (addressAt at n) = refl
 host-said bs (labelsAt at n) = refl
 
-opening-said : (bs : Bytes) (o : OpeningAt) → mapOpening (taken bs) (openingSpans bs o) ≡ openingOf bs o
+opening-said : (bs : Bytes) (o : OpeningAt) → mapOpening (taken bs) (openingSpans bs o) ≡ saidOpening bs o
 opening-said bs (discardAt k) = refl
 opening-said bs discardAllAt = refl
 opening-said bs (fullAt s a) = ap₂ full (scheme-said bs s) (ap some (same-authority (host-said bs (a .host)) refl))
@@ -130,8 +130,8 @@ tail-last (some p) none none = (lit≤ tt, tt, tt, tt)
 tail-last none none none = (lit≤ tt, tt, tt, tt)
 
 -- the first run of several
-unjoin : (xs ys : List Bytes) (l r : Bytes) → l ≡ concat (xs ++ ys) ++ r → l ≡ concat xs ++ (concat ys ++ r)
-unjoin xs ys l r e = e ∙ ap (λ (m : Bytes). m ++ r) (concat-append xs ys) ∙ append-assoc (concat xs) (concat ys) r
+unlink : (xs ys : List Bytes) (l r : Bytes) → l ≡ concat (xs ++ ys) ++ r → l ≡ concat xs ++ (concat ys ++ r)
+unlink xs ys l r e = e ∙ ap (λ (m : Bytes). m ++ r) (concat-append xs ys) ∙ append-assoc (concat xs) (concat ys) r
 
 module _ (lim : Limits) (small : lim .segments < 2 ^ 64) (r : Reference) (v : Valid lim r) where
   abbrev items : List Bytes
@@ -156,17 +156,17 @@ module _ (lim : Limits) (small : lim .segments < 2 ^ 64) (r : Reference) (v : Va
       let ps : List Bytes = written textsItem count (r .path) in
       let qs : List Bytes = written textsItem (count - 1) (r .query) in
       let fs : List Bytes = written textItem (count - 2) (r .fragment) in
-      let a = wrote-array every bs 0 [] (omega arith) (sym (append-nil bs)) in
+      let a = spelled-array every bs 0 [] (omega arith) (sym (append-nil bs)) in
       let e : drop (h .next) bs ≡ concat (openItems (length every) (r .opening) ++ (ps ++ (qs ++ fs))) ++ [] =
       a .rest ∙ ap (λ (xs : List Bytes). concat xs ++ []) (w .0 ∙ ap (λ (xs : List Bytes). openItems (length every) (r .opening) ++ xs) (t .0)) in
       yes-need _ _ _ _ (le-leb _ _ (v .size))
       (yes-head _ _ _ _ (a .stands (is Array) refl)
       (yes-need _ _ _ _ (le-leb (h .value) 5 (omega (arith, a .value)))
       (rw (a .value)
-      (yes-bind _ _ (yes-opening (length every) count (r .opening) bs (h .next) (concat (ps ++ (qs ++ fs)) ++ []) os (v .opening) (unjoin _ (ps ++ (qs ++ fs)) _ [] e)) (λ o oa.
+      (yes-bind _ _ (yes-opening (length every) count (r .opening) bs (h .next) (concat (ps ++ (qs ++ fs)) ++ []) os (v .opening) (unlink _ (ps ++ (qs ++ fs)) _ [] e)) (λ o oa.
       rw (oa .left)
-      (yes-bind _ _ (yes-array segment 0 (lim .segments) (lit< tt) small (r .path) bs (o .next) count (concat (qs ++ fs) ++ []) (l .1) (v .path) (unjoin ps (qs ++ fs) _ [] (oa .after))) (λ p pa.
-      yes-bind _ _ (yes-array parameter 1 16 (lit< tt) (lit< tt) (r .query) bs (p .next) (count - 1) (concat fs ++ []) (l .2) (v .query) (unjoin qs fs _ [] (pa .after))) (λ q qa.
+      (yes-bind _ _ (yes-array segment 0 (lim .segments) (lit< tt) small (r .path) bs (o .next) count (concat (qs ++ fs) ++ []) (l .1) (v .path) (unlink ps (qs ++ fs) _ [] (oa .after))) (λ p pa.
+      yes-bind _ _ (yes-array parameter 1 16 (lit< tt) (lit< tt) (r .query) bs (p .next) (count - 1) (concat fs ++ []) (l .2) (v .query) (unlink qs fs _ [] (pa .after))) (λ q qa.
       yes-bind _ _ (yes-fragment (r .fragment) bs (q .next) (count - 2) [] (l .3) (v .fragment) (qa .after)) (λ f fa.
       yes-need _ _ _ _ (le-leb (length bs) (f .next) (omega (arith, length-drop (f .next) bs, ap length (fa .after))))
       (yes! (meaning-said bs (o .opening) (p .slot) (q .slot) (f .slot) ∙ same-reference (oa .says) (pa .says) (qa .says) (fa .says))))))))))))

@@ -1,6 +1,6 @@
 -- The laws of resolving: each step keeps the rules, so the result of what was read is valid where it fits.
 use Prim.Native.Nat.{ℕ, zero, suc, _-_}
-use mathlib.Core.Path.{_≡_, refl}
+use mathlib.Core.Path.{_≡_, refl, ap, _∙_}
 use mathlib.Core.List.{List, [], _∷_, append-nil}
 use mathlib.Core.Option.{Option, none, some, Option·getD}
 use lib.ListN.{length}
@@ -11,7 +11,7 @@ use Rattle.rules.specs.Rules.{segment, parameter, fragmentText}
 use Rattle.rules.specs.Meaning.{readReference, readAbsolute}
 use Rattle.rules.specs.Encode.{encode}
 use Rattle.rules.specs.Valid.{If, Good, GoodTexts, GoodAuthority, GoodScheme, GoodOpening, Valid}
-use Rattle.rules.specs.Resolve.{start, cleared, discarded, appended, or, unlessSet, schemeOf, authorityOf, copied, resolve, fits, resolved}
+use Rattle.rules.specs.Resolve.{start, cleared, discarded, appended, or, unlessSet, openingScheme, openingAuthority, copied, resolve, fits, resolved}
 use Rattle.rules.proofs.Tools.{each-append, each-take}
 use Rattle.rules.proofs.Absolutes.{GoodCri}
 
@@ -27,11 +27,12 @@ normal-twice ((b ∷ t) ∷ ts) = refl
 pub resolve-nothing : (b : Cri) → resolve b (record { opening = discard 0; path = none; query = none; fragment = none })
     ≡ record { scheme = b .scheme; authority = b .authority; path = normalPath (b .path); query = b .query; fragment = none }
 unfolding resolve start discarded appended copied normal
-resolve-nothing b = rw (normal-twice (b .path))
+resolve-nothing b =
+    ap (λ (p : List Bytes). record { scheme = b .scheme; authority = b .authority; path = p; query = b .query; fragment = none }) (normal-twice (b .path))
 
 pub resolve-empty : (b : Cri) → resolve b (record { opening = discard 0; path = some []; query = none; fragment = none }) ≡ cleared b (normalPath (b .path))
 unfolding resolve start discarded appended copied normal
-resolve-empty b = rw (append-nil (normalPath (b .path)), normal-twice (b .path))
+resolve-empty b = ap (cleared b) (ap normalPath (append-nil (normalPath (b .path))) ∙ normal-twice (b .path))
 
 -- ---- each step keeps the rules
 
@@ -61,7 +62,7 @@ unfolding appended
 good-appended n none c h g = g
 good-appended n (some ts) c h g = good-cleared c _ g (each-append _ (c .path) ts (g .path) (h .each))
 
-opening-scheme : (o : Opening Bytes) (s : Scheme Bytes) → GoodOpening o → GoodScheme s → GoodScheme (Option·getD (schemeOf o) s)
+opening-scheme : (o : Opening Bytes) (s : Scheme Bytes) → GoodOpening o → GoodScheme s → GoodScheme (Option·getD (openingScheme o) s)
 opening-scheme (discard k) s h g = g
 opening-scheme discardAll s h g = g
 opening-scheme (full none none) s h g = g
@@ -69,7 +70,7 @@ opening-scheme (full none (some a)) s h g = g
 opening-scheme (full (some t) none) s h g = absurd h
 opening-scheme (full (some t) (some a)) s h g = h .0
 
-opening-authority : (o : Opening Bytes) (a : Authority Bytes) → GoodOpening o → GoodAuthority a → GoodAuthority (Option·getD (authorityOf o) a)
+opening-authority : (o : Opening Bytes) (a : Authority Bytes) → GoodOpening o → GoodAuthority a → GoodAuthority (Option·getD (openingAuthority o) a)
 opening-authority (discard k) a h g = g
 opening-authority discardAll a h g = g
 opening-authority (full s none) a h g = g

@@ -16,17 +16,17 @@ use Rattle.rules.specs.Encode.{textItem, arrayItem, textsItem, nullItem,
 use Rattle.rules.specs.Valid.{If, Good, GoodTexts}
 use Rattle.rules.proofs.Tools.{never, or-left, within-high}
 use Rattle.rules.proofs.Steps.{Ok, ok!, ok-bind, ok-if, ok-need, Yes, yes!, yes-bind, yes-then, yes-else, yes-need, Stable, same!, stable-bind, stable-if, stable-need}
-use Rattle.rules.proofs.Heads.{is-kind, small-value, Stands, ok-head, yes-head, head-spells, next-inside, Wrote, wrote, head-stable, Lead, lead}
-use Rattle.rules.proofs.Texts.{contentAt, ok-textBody, ok-texts, good-64, yes-textBody, wrote-text, yes-texts, textBody-stable, texts-stable, length-contents}
+use Rattle.rules.proofs.Heads.{is-kind, small-value, Stands, ok-head, yes-head, head-spells, next-inside, Spelled, spelled, head-stable, Lead, lead}
+use Rattle.rules.proofs.Texts.{contentAt, ok-textBody, ok-texts, good-64, yes-textBody, spelled-text, yes-texts, textBody-stable, texts-stable, length-contents}
 
 -- what a slot says
-abbrev pub textsOf : Bytes → Slot → Option (List Bytes)
-textsOf bs unset = none
-textsOf bs (set at n) = some (contents bs at n)
+abbrev pub saidTexts : Bytes → Slot → Option (List Bytes)
+saidTexts bs unset = none
+saidTexts bs (set at n) = some (contents bs at n)
 
-abbrev pub textOf : Bytes → Slot → Option Bytes
-textOf bs unset = none
-textOf bs (set at n) = some (part bs at n)
+abbrev pub saidText : Bytes → Slot → Option Bytes
+saidText bs unset = none
+saidText bs (set at n) = some (part bs at n)
 
 -- ---- what is written of a slot where `left` items are left, this one among them
 
@@ -55,8 +55,8 @@ pub null-spells : {allowed : Kind → Bool} (bs : Bytes) (at : ℕ) → Octets b
 null-spells bs at sm r e =
     head-spells bs at sm r Null tt e ∙ ap (λ (x : Bytes). x ++ drop (headAt bs at .next) bs) (ap (headBytes Null) (null-value bs at e) ∙ null-bytes)
 
-pub wrote-null : (bs : Bytes) (at : ℕ) (rest : Bytes) → drop at bs ≡ nullItem ++ rest → Wrote Null 22 bs at rest
-wrote-null bs at rest e = wrote Null 22 bs at rest refl (e ∙ ap (λ (x : Bytes). x ++ rest) (sym null-bytes))
+pub spelled-null : (bs : Bytes) (at : ℕ) (rest : Bytes) → drop at bs ≡ nullItem ++ rest → Spelled Null 22 bs at rest
+spelled-null bs at rest e = spelled Null 22 bs at rest refl (e ∙ ap (λ (x : Bytes). x ++ rest) (sym null-bytes))
 
 -- ---- a slot that is accepted
 
@@ -86,7 +86,7 @@ ok-null {f = f} {P = P} say u bs at (suc left) sm r e = ok-need _ _ _ _ (λ t.
     ok! (rw u (record { spells = one-item nullItem _ _ (null-spells bs at sm r e); last = tt; good = tt; inside = λ h. next-inside bs at r })))
 
 ok-arrayBody : {allowed : Kind → Bool} (s : Sort) (low high : ℕ) (bs : Bytes) (at left : ℕ) → Octets bs → Stands allowed bs at → kindAt bs at ≡ Array
-    → Ok (λ p. SlotIs textsItem (GoodTexts s low high) bs at (suc left) (textsOf bs (p .slot)) (p .next)) (arrayBody s low high bs at (headAt bs at))
+    → Ok (λ p. SlotIs textsItem (GoodTexts s low high) bs at (suc left) (saidTexts bs (p .slot)) (p .next)) (arrayBody s low high bs at (headAt bs at))
 unfolding arrayBody textsItem arrayItem orNull
 ok-arrayBody s low high bs at left sm r e =
     let h : Head = headAt bs at in
@@ -104,28 +104,28 @@ ok-arrayBody s low high bs at left sm r e =
     })))
 
 pub ok-array : (s : Sort) (low high : ℕ) (bs : Bytes) (at left : ℕ) → Octets bs
-    → Ok (λ p. SlotIs textsItem (GoodTexts s low high) bs at left (textsOf bs (p .slot)) (p .next)) (readArray s low high bs at left)
+    → Ok (λ p. SlotIs textsItem (GoodTexts s low high) bs at left (saidTexts bs (p .slot)) (p .next)) (readArray s low high bs at left)
 unfolding readArray concat headAt
 ok-array s low high bs at zero sm = ok! (record { spells = refl; last = tt; good = tt; inside = λ h. h })
 ok-array s low high bs at (suc left) sm =
     ok-head _ _ _ _ (λ r. ok-if _ _ _
-    (λ y. ok-null (textsOf bs) refl bs at left sm r (is-kind Null _ y))
+    (λ y. ok-null (saidTexts bs) refl bs at left sm r (is-kind Null _ y))
     (λ n. ok-arrayBody s low high bs at left sm r (is-kind Array _ (or-left _ _ (r .kind) n))))
 
 ok-fragmentBody : {allowed : Kind → Bool} (bs : Bytes) (at left : ℕ) → Octets bs → Stands allowed bs at → kindAt bs at ≡ Text
-    → Ok (λ p. SlotIs textItem (Good fragmentText) bs at (suc left) (textOf bs (p .slot)) (p .next)) (fragmentBody bs at (headAt bs at))
+    → Ok (λ p. SlotIs textItem (Good fragmentText) bs at (suc left) (saidText bs (p .slot)) (p .next)) (fragmentBody bs at (headAt bs at))
 unfolding fragmentBody orNull
 ok-fragmentBody bs at left sm r e =
     ok-bind _ _ (ok-textBody fragmentText bs at sm r e) (λ next t.
     ok! (record { spells = one-item (textItem (contentAt bs at)) _ _ (t .spells); last = tt; good = t .good; inside = λ i. omega (arith, t .ends, t .stands .inside) }))
 
 pub ok-fragment : (bs : Bytes) (at left : ℕ) → Octets bs
-    → Ok (λ p. SlotIs textItem (Good fragmentText) bs at left (textOf bs (p .slot)) (p .next)) (readFragment bs at left)
+    → Ok (λ p. SlotIs textItem (Good fragmentText) bs at left (saidText bs (p .slot)) (p .next)) (readFragment bs at left)
 unfolding readFragment concat headAt
 ok-fragment bs at zero sm = ok! (record { spells = refl; last = tt; good = tt; inside = λ h. h })
 ok-fragment bs at (suc left) sm =
     ok-head _ _ _ _ (λ r. ok-if _ _ _
-    (λ y. ok-null (textOf bs) refl bs at left sm r (is-kind Null _ y))
+    (λ y. ok-null (saidText bs) refl bs at left sm r (is-kind Null _ y))
     (λ n. ok-fragmentBody bs at left sm r (is-kind Text _ (or-left _ _ (r .kind) n))))
 
 -- ---- a slot that was written is accepted
@@ -134,14 +134,14 @@ pub record SlotWas {A : Type 0} (say : Slot → Option A) (o : Option A) (bs : B
   pub says : say (p .slot) ≡ o
   pub after : drop (p .next) bs ≡ rest
 
-yes-null : {A : Type 0} (say : Slot → Option A) → say unset ≡ none → (bs : Bytes) (at left : ℕ) (rest : Bytes) → Wrote Null 22 bs at rest
+yes-null : {A : Type 0} (say : Slot → Option A) → say unset ≡ none → (bs : Bytes) (at left : ℕ) (rest : Bytes) → Spelled Null 22 bs at rest
     → Yes (λ p. SlotWas say none bs rest p) (nullBody at (suc left) (headAt bs at))
 unfolding nullBody
 yes-null say u bs at left rest w = yes-need _ _ _ _ (ap not (ne-eqb (suc left) 0 (omega arith))) (yes! (record { says = u; after = w .rest }))
 
 yes-arrayBody : (s : Sort) (low high : ℕ) → s .high < 2 ^ 64 → (ts : List Bytes) (bs : Bytes) (at : ℕ) (rest : Bytes) → GoodTexts s low high ts
-    → Wrote Array (length ts) bs at (concat (map textItem ts) ++ rest)
-    → Yes (λ p. SlotWas (textsOf bs) (some ts) bs rest p) (arrayBody s low high bs at (headAt bs at))
+    → Spelled Array (length ts) bs at (concat (map textItem ts) ++ rest)
+    → Yes (λ p. SlotWas (saidTexts bs) (some ts) bs rest p) (arrayBody s low high bs at (headAt bs at))
 unfolding arrayBody
 yes-arrayBody s low high f ts bs at rest g w =
     let h : Head = headAt bs at in
@@ -149,37 +149,37 @@ yes-arrayBody s low high f ts bs at rest g w =
     (rw (w .value) (yes-bind _ _ (yes-texts s f ts bs (h .next) rest (g .each) (w .rest)) (λ next r.
     yes! (record { says = ap some (r .1); after = r .0 }))))
 
-wrote-texts : (ts : List Bytes) (bs : Bytes) (at : ℕ) (rest : Bytes) → length ts < 2 ^ 64 → drop at bs ≡ textsItem ts ++ rest
-    → Wrote Array (length ts) bs at (concat (map textItem ts) ++ rest)
+spelled-texts : (ts : List Bytes) (bs : Bytes) (at : ℕ) (rest : Bytes) → length ts < 2 ^ 64 → drop at bs ≡ textsItem ts ++ rest
+    → Spelled Array (length ts) bs at (concat (map textItem ts) ++ rest)
 unfolding textsItem arrayItem
-wrote-texts ts bs at rest f e =
-    wrote Array (length ts) bs at (concat (map textItem ts) ++ rest) f
+spelled-texts ts bs at rest f e =
+    spelled Array (length ts) bs at (concat (map textItem ts) ++ rest) f
     (e ∙ append-assoc (headBytes Array (length (map textItem ts))) (concat (map textItem ts)) rest
     ∙ ap (λ (n : ℕ). headBytes Array n ++ (concat (map textItem ts) ++ rest)) (length-map ts textItem))
 
 pub yes-array : (s : Sort) (low high : ℕ) → s .high < 2 ^ 64 → high < 2 ^ 64 → (o : Option (List Bytes)) (bs : Bytes) (at left : ℕ) (rest : Bytes)
     → Last left o → If (GoodTexts s low high) o → drop at bs ≡ concat (written textsItem left o) ++ rest
-    → Yes (λ p. SlotWas (textsOf bs) o bs rest p) (readArray s low high bs at left)
+    → Yes (λ p. SlotWas (saidTexts bs) o bs rest p) (readArray s low high bs at left)
 unfolding readArray concat orNull codeOf
 yes-array s low high f f′ none bs at zero rest l g e = yes! (record { says = refl; after = e })
 yes-array s low high f f′ none bs at (suc (suc n)) rest l g e =
-    let w = wrote-null bs at rest (item-one nullItem _ _ e) in
-    yes-head _ _ _ _ (w .stands (λ k. is Array k || is Null k) refl) (yes-then _ _ _ (subst (λ (k : Kind). is Null k ≡ true) (sym (w .kind)) refl) (yes-null (textsOf bs) refl bs at n rest w))
+    let w = spelled-null bs at rest (item-one nullItem _ _ e) in
+    yes-head _ _ _ _ (w .stands (λ k. is Array k || is Null k) refl) (yes-then _ _ _ (subst (λ (k : Kind). is Null k ≡ true) (sym (w .kind)) refl) (yes-null (saidTexts bs) refl bs at n rest w))
 yes-array s low high f f′ (some ts) bs at (suc n) rest l g e =
-    let w = wrote-texts ts bs at rest (omega (arith, within-high low high (length ts) (g .count))) (item-one (textsItem ts) _ _ e) in
+    let w = spelled-texts ts bs at rest (omega (arith, within-high low high (length ts) (g .count))) (item-one (textsItem ts) _ _ e) in
     yes-head _ _ _ _ (w .stands (λ k. is Array k || is Null k) refl)
     (yes-else _ _ _ (subst (λ (k : Kind). not (is Null k) ≡ true) (sym (w .kind)) refl) (yes-arrayBody s low high f ts bs at rest g w))
 
 pub yes-fragment : (o : Option Bytes) (bs : Bytes) (at left : ℕ) (rest : Bytes)
     → Last left o → If (Good fragmentText) o → drop at bs ≡ concat (written textItem left o) ++ rest
-    → Yes (λ p. SlotWas (textOf bs) o bs rest p) (readFragment bs at left)
+    → Yes (λ p. SlotWas (saidText bs) o bs rest p) (readFragment bs at left)
 unfolding readFragment concat orNull codeOf fragmentBody
 yes-fragment none bs at zero rest l g e = yes! (record { says = refl; after = e })
 yes-fragment none bs at (suc (suc n)) rest l g e =
-    let w = wrote-null bs at rest (item-one nullItem _ _ e) in
-    yes-head _ _ _ _ (w .stands (λ k. is Text k || is Null k) refl) (yes-then _ _ _ (subst (λ (k : Kind). is Null k ≡ true) (sym (w .kind)) refl) (yes-null (textOf bs) refl bs at n rest w))
+    let w = spelled-null bs at rest (item-one nullItem _ _ e) in
+    yes-head _ _ _ _ (w .stands (λ k. is Text k || is Null k) refl) (yes-then _ _ _ (subst (λ (k : Kind). is Null k ≡ true) (sym (w .kind)) refl) (yes-null (saidText bs) refl bs at n rest w))
 yes-fragment (some t) bs at (suc n) rest l g e =
-    let w = wrote-text t bs at rest (good-64 {s = fragmentText} (lit< tt) t g) (item-one (textItem t) _ _ e) in
+    let w = spelled-text t bs at rest (good-64 {s = fragmentText} (lit< tt) t g) (item-one (textItem t) _ _ e) in
     yes-head _ _ _ _ (w .stands (λ k. is Text k || is Null k) refl)
     (yes-else _ _ _ (subst (λ (k : Kind). not (is Null k) ≡ true) (sym (w .kind)) refl)
     (yes-bind _ _ (yes-textBody fragmentText t bs at rest w g) (λ next r. yes! (record { says = ap some (r .says); after = r .after }))))

@@ -16,7 +16,7 @@ use Rattle.rules.specs.Encode.{textItem}
 use Rattle.rules.specs.Valid.{Good}
 use Rattle.rules.proofs.Tools.{within-high, length-part, split-part, drop-at-drop, take-at-drop, part-more, leb-more}
 use Rattle.rules.proofs.Steps.{Ok, ok!, ok-bind, ok-map, ok-need, Yes, yes!, yes-bind, yes-map, yes-need, Stable, same!, stable-bind, stable-need, stable-cut}
-use Rattle.rules.proofs.Heads.{is-kind, Known, Stands, ok-head, yes-head, head-spells, Wrote, wrote, head-stable, headAt-more}
+use Rattle.rules.proofs.Heads.{is-kind, Known, Stands, ok-head, yes-head, head-spells, Spelled, spelled, head-stable, headAt-more}
 
 -- the content of the item that stands at a position
 abbrev pub contentAt : Bytes → ℕ → Bytes
@@ -121,7 +121,7 @@ pub record TextWas (t : Bytes) (bs : Bytes) (at : ℕ) (rest : Bytes) (next : �
   pub says : contentAt bs at ≡ t
 
 -- content of the length that the head says
-pub item-was : (k : Kind) (t bs : Bytes) (at : ℕ) (rest : Bytes) → Wrote k (length t) bs at (t ++ rest)
+pub item-was : (k : Kind) (t bs : Bytes) (at : ℕ) (rest : Bytes) → Spelled k (length t) bs at (t ++ rest)
     → (contentAt bs at ≡ t) × (drop (endAt bs at) bs ≡ rest) × (endAt bs at ≤ length bs)
 item-was k t bs at rest w =
     let h : Head = headAt bs at in
@@ -132,7 +132,7 @@ item-was k t bs at rest w =
       omega (arith, w .inside, w .value, length-drop (h .next) bs, ap length e, length-append t rest),
     )
 
-pub yes-textBody : (s : Sort) (t bs : Bytes) (at : ℕ) (rest : Bytes) → Wrote Text (length t) bs at (t ++ rest) → Good s t
+pub yes-textBody : (s : Sort) (t bs : Bytes) (at : ℕ) (rest : Bytes) → Spelled Text (length t) bs at (t ++ rest) → Good s t
     → Yes (λ next. TextWas t bs at rest next) (textBody s bs at (headAt bs at))
 unfolding textBody
 yes-textBody s t bs at rest w g =
@@ -143,9 +143,9 @@ yes-textBody s t bs at rest w g =
     (yes-need _ _ _ _ (subst (λ (x : Bytes). s .rule x ≡ true) (sym (i .0)) (g .rule))
     (yes! (record { after = i .1; ends = refl; says = i .0 })))))
 
-pub wrote-text : (t bs : Bytes) (at : ℕ) (rest : Bytes) → length t < 2 ^ 64 → drop at bs ≡ textItem t ++ rest → Wrote Text (length t) bs at (t ++ rest)
+pub spelled-text : (t bs : Bytes) (at : ℕ) (rest : Bytes) → length t < 2 ^ 64 → drop at bs ≡ textItem t ++ rest → Spelled Text (length t) bs at (t ++ rest)
 unfolding textItem
-wrote-text t bs at rest f e = wrote Text (length t) bs at (t ++ rest) f (e ∙ append-assoc (headBytes Text (length t)) t rest)
+spelled-text t bs at rest f e = spelled Text (length t) bs at (t ++ rest) f (e ∙ append-assoc (headBytes Text (length t)) t rest)
 
 pub good-64 : {s : Sort} → s .high < 2 ^ 64 → (t : Bytes) → Good s t → length t < 2 ^ 64
 good-64 {s} f t g = omega (arith, within-high (s .low) (s .high) (length t) (g .size))
@@ -154,7 +154,7 @@ pub yes-text : (s : Sort) → s .high < 2 ^ 64 → (t bs : Bytes) (at : ℕ) (re
     → Yes (λ next. TextWas t bs at rest next) (readText s bs at)
 unfolding readText codeOf
 yes-text s f t bs at rest g e =
-    let w = wrote-text t bs at rest (good-64 f t g) e in
+    let w = spelled-text t bs at rest (good-64 f t g) e in
     yes-head _ _ _ _ (w .stands (is Text) refl) (yes-textBody s t bs at rest w g)
 
 -- ---- a run of texts that was written is accepted

@@ -99,8 +99,8 @@ unstarred =
 
 -- ---- 11.4: two slips, against a base with the path "p", the query "q" and the fragment "f"
 
-abbrev pub long : Bytes
-long = hex "85 20 81 61 68 81 61 70 81 61 71 61 66"
+abbrev pub longBase : Bytes
+longBase = hex "85 20 81 61 68 81 61 70 81 61 71 61 66"
 
 unfoldable pub slips : List Row
 slips =
@@ -125,45 +125,45 @@ refusedAs bs (ok f) = record { input = bs; number = 0; place = 0 }
 abbrev pub answeredRefusal : Refusal → Refusal
 answeredRefusal r = refusedAs (r .input) (read limits (r .input))
 
-abbrev pub at : String → ℕ → ℕ → Refusal
-at s n k = record { input = hex s; number = n; place = k }
+abbrev pub refusedAt : String → ℕ → ℕ → Refusal
+refusedAt s n k = record { input = hex s; number = n; place = k }
 
 unfoldable pub refusals : List Refusal
 refusals =
     -- a missing item is cut at the input's length; a kind, then a long head; the outer count at the range step
-    at "81" 1 1
-    ∷ at "85 F4" 2 1
-    ∷ at "82 18 17" 3 1
-    ∷ at "98" 1 0
-    ∷ at "98 06" 3 0
-    ∷ at "98 18" 2 0
-    ∷ at "86" 2 0
+    refusedAt "81" 1 1
+    ∷ refusedAt "85 F4" 2 1
+    ∷ refusedAt "82 18 17" 3 1
+    ∷ refusedAt "98" 1 0
+    ∷ refusedAt "98 06" 3 0
+    ∷ refusedAt "98 18" 2 0
+    ∷ refusedAt "86" 2 0
     -- of one text: length, content cut, UTF-8, rule
-    ∷ at "82 71" 4 1
-    ∷ at "82 62 FF" 1 1
-    ∷ at "82 62 41 FF" 5 1
-    ∷ at "82 62 41 41" 6 1
+    ∷ refusedAt "82 71" 4 1
+    ∷ refusedAt "82 62 FF" 1 1
+    ∷ refusedAt "82 62 41 FF" 5 1
+    ∷ refusedAt "82 62 41 41" 6 1
     -- the opening's own checks before the number of items
-    ∷ at "81 22" 6 1
-    ∷ at "81 64 63 6F 61 70" 6 1
-    ∷ at "85 18 80" 4 1
-    ∷ at "81 18 00" 3 1
-    ∷ at "85 00" 2 1
-    ∷ at "81 20" 2 1
-    ∷ at "81 00" 2 1
+    ∷ refusedAt "81 22" 6 1
+    ∷ refusedAt "81 64 63 6F 61 70" 6 1
+    ∷ refusedAt "85 18 80" 4 1
+    ∷ refusedAt "81 18 00" 3 1
+    ∷ refusedAt "85 00" 2 1
+    ∷ refusedAt "81 20" 2 1
+    ∷ refusedAt "81 00" 2 1
     -- a final null; an empty query
-    ∷ at "82 00 F6" 2 2
-    ∷ at "83 00 F6 80" 4 3
+    ∷ refusedAt "82 00 F6" 2 2
+    ∷ refusedAt "83 00 F6 80" 4 3
     -- authorities: a number first, an item after the port, no item, a ninth label, the IPv4 look
-    ∷ at "82 20 81 05" 2 3
-    ∷ at "82 20 83 61 61 00 61" 2 6
-    ∷ at "82 20 83 61 61 00" 1 6
-    ∷ at "82 20 80" 4 2
-    ∷ at "82 20 89 61 61 61 61 61 61 61 61 61 61 61 61 61 61 61 61 61" 4 19
-    ∷ at "82 20 89 61 61 61 61 61 61 61 61 61 61 61 61 61 61 61 61 7F" 3 19
-    ∷ at "82 20 84 61 31 61 32 61 33 61 34" 6 2
+    ∷ refusedAt "82 20 81 05" 2 3
+    ∷ refusedAt "82 20 83 61 61 00 61" 2 6
+    ∷ refusedAt "82 20 83 61 61 00" 1 6
+    ∷ refusedAt "82 20 80" 4 2
+    ∷ refusedAt "82 20 89 61 61 61 61 61 61 61 61 61 61 61 61 61 61 61 61 61" 4 19
+    ∷ refusedAt "82 20 89 61 61 61 61 61 61 61 61 61 61 61 61 61 61 61 61 7F" 3 19
+    ∷ refusedAt "82 20 84 61 31 61 32 61 33 61 34" 6 2
     -- bytes after the array; over 1,024 bytes
-    ∷ at "80 00" 7 1
+    ∷ refusedAt "80 00" 7 1
     ∷ record { input = replicate 1025 0; number = 4; place = 1024 }
     ∷ []
 

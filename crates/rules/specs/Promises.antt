@@ -16,7 +16,7 @@ use Rattle.rules.specs.Valid.{Valid}
 use Rattle.rules.specs.Resolve.{resolve, fits}
 use Rattle.rules.specs.Text.{uriText}
 use Rattle.rules.specs.Calls.{Ruling, refuse, write, Done, outcome, after, resolveCall, textCall}
-use Rattle.rules.specs.Cases.{AllHold, B, starred, unstarred, long, slips, refusals, answeredRefusal, requests, answeredRequest, addresses, ipv6Printed}
+use Rattle.rules.specs.Cases.{AllHold, B, starred, unstarred, longBase, slips, refusals, answeredRefusal, requests, answeredRequest, addresses, ipv6Printed}
 
 -- ---- the reader accepts exactly the encodings of valid references, and gives them back
 
@@ -36,7 +36,7 @@ Exact =
 
 -- ---- more bytes at the end
 
--- a refusal other than CUT is the refusal of every longer input that is not too long, at the same place
+-- a refusal other than CUT is the refusal of every longer input that is not too longBase, at the same place
 abbrev pub Prefix : Type 0
 Prefix =
     (lim : Limits) (p q : Bytes) → Octets p → length (p ++ q) ≤ lim .bytes → (n k : ℕ) → (n ≡ CUT → ⊥)
@@ -115,7 +115,7 @@ Starred = AllHold B starred
 -- the remaining rows, the two slips, refusals with their places, the option examples and the IPv6 examples, one statement
 pub record Examples : Type 0 where
   pub rows : AllHold B unstarred
-  pub slipped : AllHold long slips
+  pub slipped : AllHold longBase slips
   pub order : map answeredRefusal refusals ≡ refusals
   pub options : map answeredRequest requests ≡ requests
   pub ipv6 : map ipv6Printed addresses ≡ addresses

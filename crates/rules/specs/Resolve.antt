@@ -43,22 +43,22 @@ abbrev pub unlessSet : {A B : Type 0} → Option A → Option B → Option B
 unlessSet none b = b
 unlessSet (some a) b = none
 
-abbrev pub schemeOf : Opening Bytes → Option (Scheme Bytes)
-schemeOf (discard k) = none
-schemeOf discardAll = none
-schemeOf (full s a) = s
+abbrev pub openingScheme : Opening Bytes → Option (Scheme Bytes)
+openingScheme (discard k) = none
+openingScheme discardAll = none
+openingScheme (full s a) = s
 
-abbrev pub authorityOf : Opening Bytes → Option (Authority Bytes)
-authorityOf (discard k) = none
-authorityOf discardAll = none
-authorityOf (full s a) = a
+abbrev pub openingAuthority : Opening Bytes → Option (Authority Bytes)
+openingAuthority (discard k) = none
+openingAuthority discardAll = none
+openingAuthority (full s a) = a
 
 -- 5.3 Scheme, authority, query and fragment are copied where the reference sets them; a copied query unsets an older fragment.
 unfoldable pub copied : Reference → Cri → Cri
 copied r c =
     record {
-      scheme = Option·getD (schemeOf (r .opening)) (c .scheme);
-      authority = Option·getD (authorityOf (r .opening)) (c .authority);
+      scheme = Option·getD (openingScheme (r .opening)) (c .scheme);
+      authority = Option·getD (openingAuthority (r .opening)) (c .authority);
       path = c .path;
       query = or (r .query) (c .query);
       fragment = or (r .fragment) (unlessSet (r .query) (c .fragment));

@@ -27,22 +27,22 @@ schemeTexts (number n) = []
 schemeTexts (name t) = t ∷ []
 
 -- those of what is set
-abbrev pub textsOf : {A B : Type 0} → (A → List B) → Option A → List B
-textsOf f none = []
-textsOf f (some a) = f a
+abbrev pub whereSet : {A B : Type 0} → (A → List B) → Option A → List B
+whereSet f none = []
+whereSet f (some a) = f a
 
 abbrev pub openingTexts : {A : Type 0} → Opening A → List A
 openingTexts (discard k) = []
 openingTexts discardAll = []
-openingTexts (full s a) = textsOf schemeTexts s ++ textsOf (λ a. hostTexts (a .host)) a
+openingTexts (full s a) = whereSet schemeTexts s ++ whereSet (λ a. hostTexts (a .host)) a
 
 abbrev pub openingLabels : {A : Type 0} → Opening A → List A
 openingLabels (discard k) = []
 openingLabels discardAll = []
-openingLabels (full s a) = textsOf (λ a. labelsOf (a .host)) a
+openingLabels (full s a) = whereSet (λ a. labelsOf (a .host)) a
 
 abbrev pub allTexts : {A : Type 0} → Parts A → List A
-allTexts c = openingTexts (c .opening) ++ elements (c .path) ++ elements (c .query) ++ textsOf (λ t. t ∷ []) (c .fragment)
+allTexts c = openingTexts (c .opening) ++ elements (c .path) ++ elements (c .query) ++ whereSet (λ t. t ∷ []) (c .fragment)
 
 -- ---- writing
 
