@@ -7,6 +7,7 @@ use lib.Dec.{leb, eqb}
 use Rattle.rules.specs.Bytes.{Bytes, dot, colon, join}
 use Rattle.rules.specs.Numeral.{numeral, decimal}
 
+-- dotted decimal
 unfoldable pub ipv4Text : Bytes → Bytes
 ipv4Text bs = join dot (map decimal bs)
 
@@ -31,6 +32,7 @@ pub record Run : Type 0 where
 unfoldable pub runHere : List ℕ → Run
 runHere gs = record { left = []; size = zerosAhead gs; right = drop (zerosAhead gs) gs }
 
+-- a run seen from one place earlier
 unfoldable pub runLater : ℕ → Run → Run
 runLater g r = record { left = g ∷ r .left; size = r .size; right = r .right }
 
@@ -43,6 +45,7 @@ unfoldable pub longest : List ℕ → Run
 longest [] = runHere []
 longest (g ∷ gs) = longer (runHere (g ∷ gs)) (runLater g (longest gs))
 
+-- groups in hex, joined by ":"
 unfoldable pub hexGroups : List ℕ → Bytes
 hexGroups gs = join colon (map (numeral 16 4) gs)
 
@@ -52,6 +55,7 @@ ipv6Text bs =
     let r : Run = longest (groups bs) in
     cond (leb 2 (r .size)) (hexGroups (r .left) ++ (colon ∷ colon ∷ hexGroups (r .right))) (hexGroups (groups bs))
 
+-- "[" and "]"
 abbrev pub leftBracket : ℕ
 leftBracket = 0x5B
 

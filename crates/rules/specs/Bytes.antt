@@ -7,6 +7,7 @@ use mathlib.Core.List.{List, [], _∷_, _++_}
 use lib.ListN.{take, drop}
 use lib.Dec.{leb, eqb}
 
+-- bytes are numbers
 abbrev pub Bytes : Type 0
 Bytes = List ℕ
 
@@ -15,9 +16,11 @@ abbrev pub codes : String → ℕ → ℕ → Bytes
 codes s i zero = []
 codes s i (suc n) = code (charAt s i) ∷ codes s (suc i) n
 
+-- the text itself, from its first character on
 abbrev pub ascii : String → Bytes
 ascii s = codes s 0 (len s)
 
+-- the bytes with a part in the text of a CRI: . : / ? # & %
 abbrev pub dot : ℕ
 dot = 0x2E
 
@@ -62,13 +65,16 @@ unfoldable pub bigEndian : ℕ → ℕ → Bytes → Bytes
 bigEndian zero v rest = rest
 bigEndian (suc n) v rest = bigEndian n (v / 256) (v % 256 ∷ rest)
 
+-- low <= n <= high
 abbrev pub within : ℕ → ℕ → ℕ → Bool
 within low high n = leb low n && leb n high
 
+-- the test holds of each
 unfoldable pub all : {A : Type 0} → (A → Bool) → List A → Bool
 all p [] = true
 all p (x ∷ xs) = p x && all p xs
 
+-- the test holds of one at least
 unfoldable pub any : {A : Type 0} → (A → Bool) → List A → Bool
 any p [] = false
 any p (x ∷ xs) = p x || any p xs
@@ -85,6 +91,7 @@ same [] (d ∷ t) = false
 same (c ∷ s) [] = false
 same (c ∷ s) (d ∷ t) = eqb c d && same s t
 
+-- the texts, one after the other
 unfoldable pub concat : List Bytes → Bytes
 concat [] = []
 concat (x ∷ xs) = x ++ concat xs

@@ -19,10 +19,12 @@ pub data Ruling : Type 0 where
   refuse : ℕ → Ruling
   write : Bytes → Ruling
 
+-- of the definitions that also tell a place
 abbrev pub ruling : Res Bytes → Ruling
 ruling (refused n k) = refuse n
 ruling (ok w) = write w
 
+-- what a call answers beside the room
 pub record Done : Type 0 where
   pub number : ℕ
   pub length : ℕ
@@ -39,22 +41,24 @@ after (write w) room = cond (ltb (length room) (length w)) room (w ++ drop (leng
 
 -- ---- the calls
 
--- 3.3: 8 for the base, then the reference's 1 to 7, then 9, then 10
+-- 3.3: what `resolved` says, then 10
 unfoldable pub resolveCall : Limits → Bytes → Bytes → Ruling
 resolveCall lim base ref = ruling (resolved lim base ref)
 
--- 3.4: 1 to 7, 8 if not absolute, 10
+-- 3.4: 1 to 7, 8 if not absolute
 unfoldable pub printed : Limits → Bytes → Res Bytes
 printed lim bs = readAbsolute lim bs >>= λ c. ok (uriText c)
 
+-- 3.4: the same, then 10
 unfoldable pub textCall : Limits → Bytes → Ruling
 textCall lim bs = ruling (printed lim bs)
 
--- 3.5: 12, 1 to 7, 8 if not absolute, 11, 10
+-- it is not set
 abbrev pub absent : {A : Type 0} → Option A → Bool
 absent none = true
 absent (some a) = false
 
+-- 3.5: 12, 1 to 7, 8 if not absolute, 11
 unfoldable pub requested : Limits → Bytes → Bytes → ℕ → Res Bytes
 requested lim bs toAddress toPort = do
   need (eqb (length toAddress) 4 || eqb (length toAddress) 16) DEST 0
@@ -63,6 +67,7 @@ requested lim bs toAddress toPort = do
   need (absent (c .fragment)) COAP 0
   ok (optionsFrom 0 (options c s toAddress toPort))
 
+-- 3.5: the same, then 10
 unfoldable pub optionsCall : Limits → Bytes → Bytes → ℕ → Ruling
 optionsCall lim bs toAddress toPort = ruling (requested lim bs toAddress toPort)
 

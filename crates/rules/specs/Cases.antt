@@ -16,13 +16,16 @@ use Rattle.rules.specs.Calls.{Ruling, refuse, write, resolveCall, textCa
 
 -- ---- bytes written as in the table: "82 00 F6"
 
+-- an upper-case hex digit
 abbrev pub hexValue : ℕ → ℕ
 hexValue c = cond (ltb c 0x3A) (c - 0x30) (c - 0x37)
 
+-- n bytes, from the character at i on
 abbrev pub pairs : String → ℕ → ℕ → Bytes
 pairs s i zero = []
 pairs s i (suc n) = (hexValue (code (charAt s i)) * 16 + hexValue (code (charAt s (i + 1)))) ∷ pairs s (i + 3) n
 
+-- the bytes that the text spells
 abbrev pub hex : String → Bytes
 hex s = pairs s 0 ((len s + 1) / 3)
 
@@ -34,12 +37,15 @@ pub record Row : Type 0 where
   pub result : Ruling
   pub text : Ruling
 
+-- a row that is refused with n
 abbrev pub refuses : String → ℕ → Row
 refuses s n = record { input = hex s; result = refuse n; text = refuse n }
 
+-- a row that gives the bytes w, whose URI text is t
 abbrev pub gives : String → Bytes → String → Row
 gives s w t = record { input = hex s; result = write w; text = write (ascii t) }
 
+-- the URI text of what was written
 abbrev pub textOf : Ruling → Ruling
 textOf (refuse n) = refuse n
 textOf (write w) = textCall limits w
@@ -48,6 +54,7 @@ textOf (write w) = textCall limits w
 abbrev pub answered : Bytes → Row → Row
 answered base r = record { input = r .input; result = resolveCall limits base (r .input); text = textOf (resolveCall limits base (r .input)) }
 
+-- every row is what the calls answer
 abbrev pub AllHold : Bytes → List Row → Type 0
 AllHold base rows = map (answered base) rows ≡ rows
 
@@ -65,6 +72,7 @@ known = hex "6B 2E 77 65 6C 6C 2D 6B 6E 6F 77 6E"
 abbrev pub core : Bytes
 core = hex "64 63 6F 72 65"
 
+-- the base of the table
 abbrev pub B : Bytes
 B = hex "83" ++ origin ++ hex "82" ++ known ++ core
 
@@ -99,9 +107,11 @@ unstarred =
 
 -- ---- 11.4: two slips, against a base with the path "p", the query "q" and the fragment "f"
 
+-- coap://h/p?q#f
 abbrev pub longBase : Bytes
 longBase = hex "85 20 81 61 68 81 61 70 81 61 71 61 66"
 
+-- each row with the slip that it shows
 unfoldable pub slips : List Row
 slips =
     -- resolving 80 to a base that still has its fragment
@@ -112,11 +122,13 @@ slips =
 
 -- ---- 11.5: refusals of the reader, with their places
 
+-- an input, and the number and place that it is refused with
 pub record Refusal : Type 0 where
   pub input : Bytes
   pub number : ℕ
   pub place : ℕ
 
+-- the reader's answer as such a row; 0 at 0 where it accepts
 abbrev pub refusedAs : Bytes → Res Found → Refusal
 refusedAs bs (refused n k) = record { input = bs; number = n; place = k }
 refusedAs bs (ok f) = record { input = bs; number = 0; place = 0 }
@@ -125,9 +137,11 @@ refusedAs bs (ok f) = record { input = bs; number = 0; place = 0 }
 abbrev pub answeredRefusal : Refusal → Refusal
 answeredRefusal r = refusedAs (r .input) (read limits (r .input))
 
+-- the input is refused with n at k
 abbrev pub refusedAt : String → ℕ → ℕ → Refusal
 refusedAt s n k = record { input = hex s; number = n; place = k }
 
+-- in the order of RULES 4
 unfoldable pub refusals : List Refusal
 refusals =
     -- a missing item is cut at the input's length; a kind, then a long head; the outer count at the range step
@@ -169,12 +183,14 @@ refusals =
 
 -- ---- 11.2: options
 
+-- an input and a destination, and what the options call gives
 pub record Request : Type 0 where
   pub input : Bytes
   pub address : Bytes
   pub port : ℕ
   pub result : Ruling
 
+-- to 198.51.100.1
 abbrev pub request : Bytes → ℕ → Bytes → Request
 request bs port w = record { input = bs; address = hex "C6 33 64 01"; port = port; result = write w }
 
@@ -182,6 +198,7 @@ request bs port w = record { input = bs; address = hex "C6 33 64 01"; port = por
 abbrev pub answeredRequest : Request → Request
 answeredRequest r = record { input = r .input; address = r .address; port = r .port; result = optionsCall limits (r .input) (r .address) (r .port) }
 
+-- each with what is special about it
 unfoldable pub requests : List Request
 requests =
     request B 61616 (hex "BB" ++ ascii ".well-known" ++ hex "04" ++ ascii "core")
@@ -194,16 +211,20 @@ requests =
 
 -- ---- 11.3: IPv6 texts
 
+-- an address and its text
 pub record Ipv6 : Type 0 where
   pub address : Bytes
   pub text : Bytes
 
+-- the address and the text as they are written
 abbrev pub ipv6 : String → String → Ipv6
 ipv6 a t = record { address = hex a; text = ascii t }
 
+-- what is printed
 abbrev pub ipv6Printed : Ipv6 → Ipv6
 ipv6Printed x = record { address = x .address; text = ipv6Text (x .address) }
 
+-- RFC 5952, section 4
 unfoldable pub addresses : List Ipv6
 addresses =
     ipv6 "20 01 0D B8 00 00 00 00 00 01 00 00 00 00 00 01" "2001:db8::1:0:0:1"

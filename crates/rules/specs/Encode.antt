@@ -7,6 +7,7 @@ use Rattle.rules.specs.Bytes.{Bytes, concat}
 use Rattle.rules.specs.Head.{headBytes, Number, Negative, ByteString, Text, Array}
 use Rattle.rules.specs.Model.{Scheme, number, name, Host, address, labels, Authority, Opening, discard, discardAll, full, Reference}
 
+-- a text
 unfoldable pub textItem : Bytes → Bytes
 textItem t = headBytes Text (length t) ++ t
 
@@ -14,15 +15,19 @@ textItem t = headBytes Text (length t) ++ t
 unfoldable pub arrayItem : List Bytes → Bytes
 arrayItem xs = headBytes Array (length xs) ++ concat xs
 
+-- an array of texts
 unfoldable pub textsItem : List Bytes → Bytes
 textsItem ts = arrayItem (map textItem ts)
 
+-- null
 abbrev pub nullItem : Bytes
 nullItem = 0xF6 ∷ []
 
+-- true
 abbrev pub trueItem : Bytes
 trueItem = 0xF5 ∷ []
 
+-- the item, or null where it is unset
 unfoldable pub orNull : {A : Type 0} → (A → Bytes) → Option A → Bytes
 orNull f none = nullItem
 orNull f (some a) = f a
@@ -39,10 +44,12 @@ unfoldable pub portItems : Option ℕ → List Bytes
 portItems none = []
 portItems (some p) = headBytes Number p ∷ []
 
+-- 1.8: the items of a host
 unfoldable pub hostItems : Host Bytes → List Bytes
 hostItems (address a) = (headBytes ByteString (length a) ++ a) ∷ []
 hostItems (labels ts) = map textItem ts
 
+-- 1.8: the array of both
 unfoldable pub authorityItem : Authority Bytes → Bytes
 authorityItem a = arrayItem (hostItems (a .host) ++ portItems (a .port))
 
@@ -65,5 +72,6 @@ withOpening (full s none) [] = orNull schemeItem s ∷ []
 withOpening (full s none) (x ∷ xs) = orNull schemeItem s ∷ nullItem ∷ x ∷ xs
 withOpening (full s (some a)) xs = orNull schemeItem s ∷ authorityItem a ∷ xs
 
+-- 1.1: the whole
 unfoldable pub encode : Reference → Bytes
 encode r = arrayItem (withOpening (r .opening) (tailItems (r .path) (r .query) (r .fragment)))

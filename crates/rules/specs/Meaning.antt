@@ -9,34 +9,42 @@ use Rattle.rules.specs.Reader.{Slot, unset, set, spans, taken, HostAt, a
 
 -- ---- the components: where each text and address stands
 
+-- n bytes from a position on
 abbrev pub span : ℕ → ℕ → Span
 span at n = record { start = at; length = n }
 
+-- the scheme's number, or where its text stands
 abbrev pub schemeSpan : SchemeAt → Option (Scheme Span)
 schemeSpan noScheme = none
 schemeSpan (numberAt n) = some (number n)
 schemeSpan (nameAt at n) = some (name (span at n))
 
+-- where the address or the labels stand
 abbrev pub hostSpans : Bytes → HostAt → Host Span
 hostSpans bs (addressAt at n) = address (span at n)
 hostSpans bs (labelsAt at n) = labels (spans bs at n)
 
+-- and the port
 abbrev pub authoritySpans : Bytes → AuthorityAt → Authority Span
 authoritySpans bs a = record { host = hostSpans bs (a .host); port = a .port }
 
+-- the discard, or scheme and authority
 abbrev pub openingSpans : Bytes → OpeningAt → Opening Span
 openingSpans bs (discardAt k) = discard k
 openingSpans bs discardAllAt = discardAll
 openingSpans bs (fullAt s a) = full (schemeSpan s) (some (authoritySpans bs a))
 
+-- where the segments or parameters stand
 abbrev pub textSpans : Bytes → Slot → Option (List Span)
 textSpans bs unset = none
 textSpans bs (set at n) = some (spans bs at n)
 
+-- where the fragment stands
 abbrev pub textSpan : Slot → Option Span
 textSpan unset = none
 textSpan (set at n) = some (span at n)
 
+-- 9.5: what reading reports
 unfoldable pub components : Bytes → Found → Components
 components bs f =
     record {
@@ -48,6 +56,7 @@ components bs f =
 
 -- ---- the meaning: their bytes
 
+-- each span replaced by its bytes
 unfoldable pub meaning : Bytes → Found → Reference
 meaning bs f = mapParts (taken bs) (components bs f)
 

@@ -17,6 +17,7 @@ pub data Host (A : Type 0) : Type 0 where
   address : A → Host A
   labels : List A → Host A
 
+-- 1.8: the host and its port
 pub record Authority (A : Type 0) : Type 0 where
   pub host : Host A
   pub port : Option ℕ
@@ -40,30 +41,37 @@ pub record Span : Type 0 where
   pub start : ℕ
   pub length : ℕ
 
+-- each text and address as its bytes
 abbrev pub Reference : Type 0
 Reference = Parts Bytes
 
+-- each text and address as a span
 abbrev pub Components : Type 0
 Components = Parts Span
 
 -- the same parts, each text or address given in another way
 
+-- of a scheme
 abbrev pub mapScheme : {A B : Type 0} → (A → B) → Scheme A → Scheme B
 mapScheme f (number n) = number n
 mapScheme f (name t) = name (f t)
 
+-- of a host
 abbrev pub mapHost : {A B : Type 0} → (A → B) → Host A → Host B
 mapHost f (address a) = address (f a)
 mapHost f (labels ts) = labels (map f ts)
 
+-- of an authority
 abbrev pub mapAuthority : {A B : Type 0} → (A → B) → Authority A → Authority B
 mapAuthority f a = record { host = mapHost f (a .host); port = a .port }
 
+-- of an opening
 abbrev pub mapOpening : {A B : Type 0} → (A → B) → Opening A → Opening B
 mapOpening f (discard k) = discard k
 mapOpening f discardAll = discardAll
 mapOpening f (full s a) = full (Option·map (mapScheme f) s) (Option·map (mapAuthority f) a)
 
+-- of the whole
 abbrev pub mapParts : {A B : Type 0} → (A → B) → Parts A → Parts B
 mapParts f r =
     record {
@@ -78,6 +86,7 @@ pub record Limits : Type 0 where
   pub bytes : ℕ
   pub segments : ℕ
 
+-- the sizes in force
 abbrev pub limits : Limits
 limits = record { bytes = 1024; segments = 32 }
 
@@ -125,12 +134,14 @@ normalPath ([] ∷ []) = []
 normalPath ([] ∷ (u ∷ ts)) = [] ∷ u ∷ ts
 normalPath ((b ∷ t) ∷ ts) = (b ∷ t) ∷ ts
 
+-- the CRI with its path in that form
 unfoldable pub normal : Cri → Cri
 normal c =
     record { scheme = c .scheme; authority = c .authority; path = normalPath (c .path); query = c .query; fragment = c .fragment }
 
 -- ---- RULES 8: when two CRIs are the same
 
+-- the six things compared
 pub record Same (a b : Cri) : Type 0 where
   -- 8.1: the number, or the text's bytes; a number and a text are never the same
   pub scheme : a .scheme ≡ b .scheme

@@ -10,10 +10,12 @@ use Rattle.rules.specs.Model.{Scheme, number, name, Host, address, label
 use Rattle.rules.specs.Rules.{SchemeEntry, schemes, schemeIn}
 use Rattle.rules.specs.Address.{addressText}
 
+-- an option: its number and its value
 pub record CoapOption : Type 0 where
   pub number : ℕ
   pub value : Bytes
 
+-- the option of a number and a value
 abbrev pub option : ℕ → Bytes → CoapOption
 option n v = record { number = n; value = v }
 
@@ -44,9 +46,11 @@ options c s toAddress toPort =
 unfoldable pub nibble : ℕ → ℕ
 nibble n = cond (ltb n 13) n (cond (ltb n 269) 13 14)
 
+-- the bytes that follow the nibbles
 unfoldable pub extension : ℕ → Bytes
 extension n = cond (ltb n 13) [] (cond (ltb n 269) ((n - 13) ∷ []) ((n - 269) / 256 ∷ (n - 269) % 256 ∷ []))
 
+-- an option whose number is `delta` over the one before
 unfoldable pub optionBytes : ℕ → Bytes → Bytes
 optionBytes delta value =
     (nibble delta * 16 + nibble (length value)) ∷ (extension delta ++ extension (length value) ++ value)

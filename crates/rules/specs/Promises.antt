@@ -36,7 +36,7 @@ Exact =
 
 -- ---- more bytes at the end
 
--- a refusal other than CUT is the refusal of every longer input that is not too longBase, at the same place
+-- a refusal other than CUT is the refusal of every longer input that is not too long, at the same place
 abbrev pub Prefix : Type 0
 Prefix =
     (lim : Limits) (p q : Bytes) → Octets p → length (p ++ q) ≤ lim .bytes → (n k : ℕ) → (n ≡ CUT → ⊥)
@@ -67,6 +67,7 @@ pub record BothPrinted (u v : Ruling) (c d : Cri) (x y : Bytes) : Type 0 where
   pub secondText : shown v y ≡ uriText d
   pub same : ((outcome u (length x) .length ≡ outcome v (length y) .length) × (shown u x ≡ shown v y)) ↔ Same c d
 
+-- for any limits
 abbrev pub Demand3 : Type 0
 Demand3 =
     (lim : Limits) (a b : Bytes) (c d : Cri) → Octets a → Octets b → readAbsolute lim a ≡ ok c → readAbsolute lim b ≡ ok d
@@ -89,6 +90,7 @@ pub record Resolved (lim : Limits) (base ref : Bytes) (c : Cri) : Type 0 where
   pub again : fits lim c ≡ true → readAbsolute lim (encode (reference c)) ≡ ok c
   pub refusal : fits lim c ≡ false → resolveCall lim base ref ≡ refuse RESULT
 
+-- for any limits that a CBOR head can count
 abbrev pub Resolving : Type 0
 Resolving =
     (lim : Limits) → lim .segments < 2 ^ 64 → (base ref : Bytes) (b : Cri) (r : Reference) → Octets base → Octets ref

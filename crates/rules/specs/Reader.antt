@@ -30,6 +30,7 @@ textBody s bs at h = do
   need (s .rule t) RULE at
   ok (h .next + h .value)
 
+-- a text of a sort at a position
 unfoldable pub readText : Sort → Bytes → ℕ → Res ℕ
 readText s bs at = do
   h ← readHead (is Text) bs at
@@ -44,10 +45,11 @@ readTexts s bs at (suc n) = do
 
 -- ---- what stands at a position, if an item does
 
--- the span of its content, and the position after it
+-- the span of its content
 abbrev pub spanAt : Bytes → ℕ → Span
 spanAt bs at = record { start = headAt bs at .next; length = headAt bs at .value }
 
+-- where the item at a position ends
 abbrev pub endAt : Bytes → ℕ → ℕ
 endAt bs at = headAt bs at .next + headAt bs at .value
 
@@ -71,6 +73,7 @@ pub data Slot : Type 0 where
   unset : Slot
   set : ℕ → ℕ → Slot
 
+-- and the position after it
 pub record SlotAt : Type 0 where
   pub slot : Slot
   pub next : ℕ
@@ -95,6 +98,7 @@ readArray s low high bs at (suc left) = do
   h ← readHead (λ k. is Array k || is Null k) bs at
   if is Null (h .kind) then nullBody at left h else arrayBody s low high bs at h
 
+-- a fragment, whose head has been read
 unfoldable pub fragmentBody : Bytes → ℕ → Head → Res SlotAt
 fragmentBody bs at h = do
   next ← textBody fragmentText bs at h
@@ -187,11 +191,13 @@ readAuthority bs at = do
 
 -- ---- the opening
 
+-- the scheme's number, or the position of its bytes and their count
 pub data SchemeAt : Type 0 where
   noScheme : SchemeAt
   numberAt : ℕ → SchemeAt
   nameAt : ℕ → ℕ → SchemeAt
 
+-- 1.2, 1.3
 pub data OpeningAt : Type 0 where
   discardAt : ℕ → OpeningAt
   discardAllAt : OpeningAt
@@ -244,12 +250,14 @@ readOpening bs at (suc n) = do
 
 -- ---- the whole: 4.1, the outer array and 4.4, the items, 4.9
 
+-- where everything stands
 pub record Found : Type 0 where
   pub opening : OpeningAt
   pub path : Slot
   pub query : Slot
   pub fragment : Slot
 
+-- the position of a refusal for length is the largest size
 unfoldable pub read : Limits → Bytes → Res Found
 read lim bs = do
   need (leb (length bs) (lim .bytes)) LIMIT (lim .bytes)

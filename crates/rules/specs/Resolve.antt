@@ -43,11 +43,13 @@ abbrev pub unlessSet : {A B : Type 0} → Option A → Option B → Option B
 unlessSet none b = b
 unlessSet (some a) b = none
 
+-- the scheme that a reference brings
 abbrev pub openingScheme : Opening Bytes → Option (Scheme Bytes)
 openingScheme (discard k) = none
 openingScheme discardAll = none
 openingScheme (full s a) = s
 
+-- the authority that a reference brings
 abbrev pub openingAuthority : Opening Bytes → Option (Authority Bytes)
 openingAuthority (discard k) = none
 openingAuthority discardAll = none

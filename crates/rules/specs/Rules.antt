@@ -19,14 +19,17 @@ free t = true
 
 -- ---- RULES 1.6: the scheme numbers known here, their names and default ports
 
+-- a row of the table
 pub record SchemeEntry : Type 0 where
   pub number : ℕ
   pub name : Bytes
   pub port : ℕ
 
+-- number, name, default port
 abbrev pub entry : ℕ → Bytes → ℕ → SchemeEntry
 entry n t p = record { number = n; name = t; port = p }
 
+-- the table
 unfoldable pub schemes : List SchemeEntry
 schemes =
     entry 0 (ascii "coap") 5683
@@ -48,18 +51,23 @@ knownScheme n = any (λ (e : SchemeEntry). eqb n (e .number)) schemes
 
 -- ---- RULES 1.7: a scheme given as text
 
+-- a to z
 abbrev pub lower : ℕ → Bool
 lower b = within 0x61 0x7A b
 
+-- A to Z
 abbrev pub upper : ℕ → Bool
 upper b = within 0x41 0x5A b
 
+-- 0 to 9
 abbrev pub digit : ℕ → Bool
 digit b = within 0x30 0x39 b
 
+-- lower-case letters, digits, "+", "." or "-"
 unfoldable pub schemeByte : ℕ → Bool
 schemeByte b = lower b || digit b || member b (ascii "+.-")
 
+-- the first is a lower-case letter
 unfoldable pub startsLower : Bytes → Bool
 startsLower [] = false
 startsLower (b ∷ bs) = lower b
@@ -74,6 +82,7 @@ schemeRule t = startsLower t && (all schemeByte t && all (λ (e : SchemeEntry). 
 unfoldable pub labelByte : ℕ → Bool
 labelByte b = not (eqb b dot) && not (upper b)
 
+-- every byte of a label
 unfoldable pub labelRule : Bytes → Bool
 labelRule t = all labelByte t
 
@@ -99,17 +108,22 @@ segmentRule t = not (same t (ascii ".")) && not (same t (ascii ".."))
 
 -- ---- RULES 2.2 to 2.5, 2.7: the sizes of each sort
 
+-- 2.7
 abbrev pub schemeName : Sort
 schemeName = record { low = 1; high = 16; rule = schemeRule }
 
+-- 2.5
 abbrev pub label : Sort
 label = record { low = 1; high = 63; rule = labelRule }
 
+-- 2.2
 abbrev pub segment : Sort
 segment = record { low = 0; high = 255; rule = segmentRule }
 
+-- 2.3
 abbrev pub parameter : Sort
 parameter = record { low = 0; high = 255; rule = free }
 
+-- 2.4
 abbrev pub fragmentText : Sort
 fragmentText = record { low = 0; high = 255; rule = free }

@@ -35,6 +35,7 @@ hexDigit n = cond (ltb n 10) (0x30 + n) (0x37 + n)
 unfoldable pub escapeByte : Class → ℕ → Bytes
 escapeByte k b = cond (bare k b) (b ∷ []) (percent ∷ hexDigit (b / 16) ∷ hexDigit (b % 16) ∷ [])
 
+-- the bytes of a text, each bare or escaped
 unfoldable pub escape : Class → Bytes → Bytes
 escape k [] = []
 escape k (b ∷ bs) = escapeByte k b ++ escape k bs
@@ -46,6 +47,7 @@ unfoldable pub marked : ℕ → Option Bytes → Bytes
 marked d none = []
 marked d (some t) = d ∷ t
 
+-- the name of a table's entry
 abbrev pub entryName : Option SchemeEntry → Bytes
 entryName none = []
 entryName (some e) = e .name

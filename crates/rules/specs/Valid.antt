@@ -38,14 +38,17 @@ pub record GoodLabels (ts : List Bytes) : Type 0 where
   pub texts : GoodTexts label 1 8 ts
   pub name : nameRule ts ≡ true
 
+-- 1.8
 abbrev pub GoodHost : Host Bytes → Type 0
 GoodHost (address a) = GoodAddress a
 GoodHost (labels ts) = GoodLabels ts
 
+-- 1.8, 2.6
 pub record GoodAuthority (a : Authority Bytes) : Type 0 where
   pub host : GoodHost (a .host)
   pub port : If (λ p. p ≤ 65535) (a .port)
 
+-- 1.6, 1.7
 abbrev pub GoodScheme : Scheme Bytes → Type 0
 GoodScheme (number n) = knownScheme n ≡ true
 GoodScheme (name t) = Good schemeName t
@@ -57,6 +60,7 @@ GoodOpening discardAll = Unit {0}
 GoodOpening (full s none) = ⊥
 GoodOpening (full s (some a)) = If GoodScheme s × GoodAuthority a
 
+-- a reference that keeps the rules, and whose encoding is not too long
 pub record Valid (lim : Limits) (r : Reference) : Type 0 where
   pub opening : GoodOpening (r .opening)
   pub path : If (GoodTexts segment 0 (lim .segments)) (r .path)

@@ -49,6 +49,7 @@ abbrev pub segmentShown : Res Span → Span
 segmentShown (refused n k) = nowhere
 segmentShown (ok s) = s
 
+-- the same of a part of one of two inputs
 abbrev pub pieceShown : Res Piece → Piece
 pieceShown (refused n k) = ofReference nowhere
 pieceShown (ok p) = p

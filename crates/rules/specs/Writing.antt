@@ -14,14 +14,17 @@ use Rattle.rules.specs.Encode.{encode}
 
 -- ---- the texts and addresses of the parts of a reference
 
+-- its labels
 abbrev pub labelsOf : {A : Type 0} → Host A → List A
 labelsOf (address a) = []
 labelsOf (labels ts) = ts
 
+-- its address or its labels
 abbrev pub hostTexts : {A : Type 0} → Host A → List A
 hostTexts (address a) = a ∷ []
 hostTexts (labels ts) = ts
 
+-- its text
 abbrev pub schemeTexts : {A : Type 0} → Scheme A → List A
 schemeTexts (number n) = []
 schemeTexts (name t) = t ∷ []
@@ -31,16 +34,19 @@ abbrev pub whereSet : {A B : Type 0} → (A → List B) → Option A → List B
 whereSet f none = []
 whereSet f (some a) = f a
 
+-- of scheme and authority
 abbrev pub openingTexts : {A : Type 0} → Opening A → List A
 openingTexts (discard k) = []
 openingTexts discardAll = []
 openingTexts (full s a) = whereSet schemeTexts s ++ whereSet (λ a. hostTexts (a .host)) a
 
+-- the labels
 abbrev pub openingLabels : {A : Type 0} → Opening A → List A
 openingLabels (discard k) = []
 openingLabels discardAll = []
 openingLabels (full s a) = whereSet (λ a. labelsOf (a .host)) a
 
+-- of the whole
 abbrev pub allTexts : {A : Type 0} → Parts A → List A
 allTexts c = openingTexts (c .opening) ++ elements (c .path) ++ elements (c .query) ++ whereSet (λ t. t ∷ []) (c .fragment)
 
@@ -71,6 +77,7 @@ written lim c lent = do
 
 -- ---- reading
 
+-- what reading answers
 pub record Reading : Type 0 where
   pub number : ℕ
   pub components : Components
@@ -79,6 +86,7 @@ pub record Reading : Type 0 where
 abbrev pub noComponents : Components
 noComponents = record { opening = full none none; path = none; query = none; fragment = none }
 
+-- the number, 0 where it accepts, and the components
 unfoldable pub readCall : Limits → Bytes → Reading
 readCall lim bs = reading (read lim bs)
   where
