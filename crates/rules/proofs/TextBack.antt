@@ -10,9 +10,9 @@ use lib.ListN.{length, length-map}
 use lib.Dec.{leb, ltb, eqb}
 use borrow.Author.Tests.{eqb-true, lt-ltb, ltb-true, not-true}
 use Rattle.rules.specs.Bytes.{Bytes, Each, Octets, ascii, dot, colon, slash, question, hash, ampersand, within, all, same, join}
-use Rattle.rules.specs.Model.{Scheme, number, name, Host, address, labels, Cri, normalPath, normal, Same}
+use Rattle.rules.specs.Model.{Scheme, number, name, Host, address, labels, Authority, Cri, normalPath, normal, Same}
 use Rattle.rules.specs.Rules.{label, segment, parameter, fragmentText, SchemeEntry, schemes, schemeIn, knownScheme, schemeByte, startsLower, schemeRule, labelByte, labelRule, octet, looksIPv4, nameRule}
-use Rattle.rules.specs.Valid.{If, Good, GoodTexts, GoodHost, GoodScheme}
+use Rattle.rules.specs.Valid.{If, Good, GoodTexts, GoodHost, GoodAuthority, GoodScheme}
 use Rattle.rules.specs.Numeral.{digitByte, decimal}
 use Rattle.rules.specs.Address.{ipv4Text, ipv6Text, leftBracket, rightBracket, addressText}
 use Rattle.rules.specs.Text.{Class, Label, Segment, Parameter, Fragment, bare, hexDigit, escape, marked, entryName, schemeText, hostText, authorityText, pathText, queryText, hierarchyText, uriText}
@@ -234,10 +234,11 @@ labels-host : (ls : List Bytes) → nameRule ls ≡ true → unHost ls ≡ label
 unfolding unHost nameRule
 labels-host ls h = rw (not-true (looksIPv4 ls) (and-right (leb (length (join dot ls)) 255) _ h))
 
-abbrev Back : Bytes → Host Bytes → Option ℕ → Type 0
-Back t h p = (unAuthority t ≡ some (record { host = h; port = p })) × All (lacks pathLack) t
+-- the text reads as the authority, and has no delimiter of what follows it
+abbrev Back : Bytes → Authority Bytes → Type 0
+Back t a = (unAuthority t ≡ some a) × All (lacks pathLack) t
 
-four-back : (bs : Bytes) (p : Option ℕ) → length bs ≡ 4 → Octets bs → If (λ n. n ≤ 65535) p → Back (join dot (map decimal bs) ++ marked colon (Option·map decimal p)) (address bs) p
+four-back : (bs : Bytes) (p : Option ℕ) → length bs ≡ 4 → Octets bs → If (λ n. n ≤ 65535) p → Back (join dot (map decimal bs) ++ marked colon (Option·map decimal p)) (record { host = address bs; port = p })
 four-back bs p e h k =
     let lack : Each (All (lacks nameLack)) (map (escape Label) (map decimal bs)) = rw (decimals-bare bs) (decimals-lack bs) in
     let few : filled (map decimal bs) ≡ true = decimals-some bs e in
@@ -246,19 +247,23 @@ four-back bs p e h k =
       rw (decimals-bare bs) at (name-all (map decimal bs) few bytes lack p),
     )
 
-authority-back : (h : Host Bytes) (p : Option ℕ) → GoodHost h → If (λ n. n ≤ 65535) p → Back (hostText h ++ marked colon (Option·map decimal p)) h p
+host-back : (h : Host Bytes) (p : Option ℕ) → GoodHost h → If (λ n. n ≤ 65535) p → Back (hostText h ++ marked colon (Option·map decimal p)) (record { host = h; port = p })
 unfolding hostText addressText ipv4Text
-authority-back (labels ls) p h k =
+host-back (labels ls) p h k =
     let lack : Each (All (lacks nameLack)) (map (escape Label) ls) = labels-lack ls (h .texts .each) in
     let bytes : Each Octets ls = goods-octets label ls (h .texts .each) in
     let few : filled ls ≡ true = some-filled 8 ls (h .texts .count) in
     (rw (labels-host ls (h .name)) at (name-back ls few bytes lack p k), name-all ls few bytes lack p)
-authority-back (address bs) p h k =
-    by-test (λ t. ((t || eqb (length bs) 16) ≡ true) → Back (cond t (join dot (map decimal bs)) (leftBracket ∷ (ipv6Text bs ++ (rightBracket ∷ []))) ++ marked colon (Option·map decimal p)) (address bs) p)
+host-back (address bs) p h k =
+    by-test (λ t. ((t || eqb (length bs) 16) ≡ true) → Back (cond t (join dot (map decimal bs)) (leftBracket ∷ (ipv6Text bs ++ (rightBracket ∷ []))) ++ marked colon (Option·map decimal p)) (record { host = address bs; port = p }))
     (eqb (length bs) 4)
     (λ e z. four-back bs p (eqb-true _ _ e) (h .octets) k)
     (λ e z. let s : length bs ≡ 16 = eqb-true _ _ z in (six-back bs s (h .octets) p k, six-all bs s (h .octets) p))
     (h .size)
+
+authority-back : (a : Authority Bytes) → GoodAuthority a → Back (authorityText a) a
+unfolding authorityText
+authority-back a g = host-back (a .host) (a .port) (g .host) (g .port)
 
 -- ---- path, query and fragment
 
@@ -321,7 +326,7 @@ fragment-back (some x) h = rw (unescape-escape Fragment x h)
 -- ---- the whole
 
 hierarchy-all : (c : Cri) → GoodCri c → All (lacks tailLack) (hierarchyText c)
-unfolding hierarchyText authorityText
+unfolding hierarchyText
 hierarchy-all c v =
     let A : Bytes = authorityText (c .authority) in
     each-append _ (schemeText (c .scheme)) _ (all-lacks (lacks schemeLack) tailLack refl (schemeText (c .scheme)) (scheme-lacks (c .scheme) (v .scheme))) (
@@ -330,14 +335,14 @@ hierarchy-all c v =
         refl,
         (
           refl,
-          each-append _ A _ (all-lacks (lacks pathLack) tailLack refl A (authority-back (c .authority .host) (c .authority .port) (v .authority .host) (v .authority .port) .1))
+          each-append _ A _ (all-lacks (lacks pathLack) tailLack refl A (authority-back (c .authority) (v .authority) .1))
               (refl, path-all (c .path) (goods-octets segment (c .path) (v .path))),
         ),
       ),
     )
 
 pub text-back : (c : Cri) → GoodCri c → unText (uriText c) ≡ some (normal c)
-unfolding unText uriText normal hierarchyText authorityText marked slashes
+unfolding unText uriText normal hierarchyText marked slashes
 text-back c v =
     let S : Bytes = schemeText (c .scheme) in
     let A : Bytes = authorityText (c .authority) in
@@ -345,7 +350,7 @@ text-back c v =
     let M : Bytes = hierarchyText c in
     let q : Option Bytes = Option·map queryText (c .query) in
     let f : Option Bytes = Option·map (escape Fragment) (c .fragment) in
-    let a = authority-back (c .authority .host) (c .authority .port) (v .authority .host) (v .authority .port) in
+    let a = authority-back (c .authority) (v .authority) in
     let m-all : All (lacks tailLack) M = hierarchy-all c v in
     let fh : Free hash (M ++ marked question q) =
     each-append _ M _ (lack-free tailLack hash refl M m-all) (lack-free (hash ∷ []) hash refl (marked question q) (query-all (c .query) (parameters-octets (c .query) (v .query)))) in
