@@ -6,10 +6,9 @@
 -- And the steps that code takes: what a function that found this has to answer.
 use Prim.Native.Nat.{ℕ}
 use native.Mathlib.Omega.{arith}
-use mathlib.Core.Path.{_≡_, refl, subst}
+use mathlib.Core.Path.{_≡_, refl, sym, subst}
 use mathlib.Core.Bool.{Bool, true, false, not}
-use mathlib.Core.Option.{Option, none, some}
-use Rattle.rules.specs.Result.{Res, refused, ok, _>>=_, _>>_, need, given, if_then_else_}
+use Rattle.rules.specs.Result.{Res, refused, ok, _>>=_, _>>_, need, if_then_else_}
 use Rattle.rules.proofs.Tools.{never}
 
 -- ---- one step of a walk
@@ -59,11 +58,6 @@ pub ok-if : {A : Type 0} {P : A → Type 0} (t : Bool) (a b : Res A) → (t ≡ 
 unfolding if_then_else_
 ok-if true a b f g = f refl
 ok-if false a b f g = g refl
-
-pub ok-given : {A B : Type 0} {Q : B → Type 0} (o : Option A) (n k : ℕ) (f : A → Res B) → ((a : A) → o ≡ some a → Ok Q (f a)) → Ok Q (given o n k >>= f)
-unfolding given _>>=_
-ok-given none n k f g = no!
-ok-given (some a) n k f g = g a refl
 
 pub ok-map : {A : Type 0} {P Q : A → Type 0} {m : Res A} → Ok P m → ((a : A) → P a → Q a) → Ok Q m
 ok-map no! g = no!
@@ -170,15 +164,9 @@ module _ {B : Type 0} {Q : Res B → Type 0} where
   -- a last test that the second run fails
   pub kept-last : (t t′ : Bool) (n k : ℕ) (a : B) (r : Res B) → t′ ≡ false → (t ≡ true → Q (refused n k)) → Kept Q (need t n k >> ok a) (need t′ n k >> r)
   unfolding _>>_ need
-  kept-last true true n k a r e q = never (symm e)
-    where
-      symm : true ≡ false → false ≡ true
-      symm e = cc
+  kept-last true true n k a r e q = never (sym e)
   kept-last true false n k a r e q = accepted! (q refl)
-  kept-last false true n k a r e q = never (symm e)
-    where
-      symm : true ≡ false → false ≡ true
-      symm e = cc
+  kept-last false true n k a r e q = never (sym e)
   kept-last false false n k a r e q = refused!
 
 pub kept-refused : {A : Type 0} {Q : Res A → Type 0} {r r′ : Res A} (n k : ℕ) → Kept Q r r′ → r ≡ refused n k → (n ≡ 1 → ⊥) → r′ ≡ refused n k

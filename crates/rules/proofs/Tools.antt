@@ -7,7 +7,7 @@ use mathlib.Core.Bool.{Bool, true, false, cond, _&&_, _||_, false≢true}
 use mathlib.Core.List.{List, [], _∷_, _++_, append-assoc}
 use lib.ListN.{length, getD, take, drop, length-drop, length-append, take-append-drop, List·getD-append}
 use lib.Seq.{length-take-le, drop-drop, getD-drop, take-at, drop-at, drop-append-le, take-append-le}
-use lib.Dec.{leb, eqb, lit<}
+use lib.Dec.{leb}
 use borrow.Author.Tests.{ltb-true, ltb-false, leb-true, leb-false, eqb-true, eq-eqb, le-leb}
 use Rattle.rules.specs.Bytes.{Bytes, Each, Octets, part, within, all, same, concat}
 
@@ -127,21 +127,9 @@ pub same-refl : (s : Bytes) → same s s ≡ true
 same-refl [] = refl
 same-refl (c ∷ s) = rw (eq-eqb c c refl, same-refl s)
 
-pub same-true : (s t : Bytes) → same s t ≡ true → s ≡ t
-same-true [] [] e = refl
-same-true [] (d ∷ t) e = cc
-same-true (c ∷ s) [] e = cc
-same-true (c ∷ s) (d ∷ t) e =
-    let x : c ≡ d = eqb-true c d (and-left (eqb c d) _ e) in
-    let y : s ≡ t = same-true s t (and-right (eqb c d) _ e) in cc
-
 -- ---- what stands at a position
 
-pub octet-at : (bs : Bytes) → Octets bs → (i : ℕ) → getD bs i 0 < 256
-octet-at [] h i = lit< tt
-octet-at (b ∷ bs) h zero = h .0
-octet-at (b ∷ bs) h (suc i) = octet-at bs (h .1) i
-
+-- what a slice gives, a bound at each index, as a statement of each byte
 pub octets-of : (bs : Bytes) → ((i : ℕ) → getD bs i 0 < 256) → Octets bs
 octets-of [] h = tt
 octets-of (b ∷ bs) h = (h 0, octets-of bs (λ i. h (suc i)))
