@@ -17,7 +17,7 @@ use Rattle.rules.specs.Encode.{encode}
 use Rattle.rules.specs.Valid.{If, Good, GoodTexts, GoodAuthority, GoodScheme, GoodOpening, Valid}
 use Rattle.rules.specs.Resolve.{fits}
 use Rattle.rules.proofs.Tools.{and-left, and-right, is-within}
-use Rattle.rules.proofs.Steps.{bind-ok, ok-at}
+use Rattle.rules.proofs.Steps.{refused-ok, bind-ok, ok-at}
 use Rattle.rules.proofs.Reading.{canonical, complete}
 
 -- ---- absolute references
@@ -71,9 +71,6 @@ pub read-as : (lim : Limits) (bs : Bytes) (c : Cri) → readAbsolute lim bs ≡ 
 unfolding readAbsolute _>>=_ given
 read-as lim bs c e = go (readReference lim bs) refl e
   where
-    refused-ok : {A B : Type 0} (n k : ℕ) (a : A) → refused n k ≡ ok a → B
-    refused-ok n k a e = let z : _≡_ {A = ℕ} 0 1 = cc in absurd (omega arith)
-
     held : (r : Reference) (o : Option Cri) → absolute r ≡ o → given o BASE 0 ≡ ok c → readReference lim bs ≡ ok r → ReadAs lim bs c
     held r none d e m = refused-ok BASE 0 c e
     held r (some a) d e m = let s : a ≡ c = cc in record { said = r; read = m; is = absolute-is r c (d ∙ ap some s) }

@@ -1,5 +1,5 @@
 -- To compute with every definition: `unfolding computed`.
-use Rattle.rules.specs.Bytes.{numberFrom, bigEndian, all, any, concat, join}
+use Rattle.rules.specs.Bytes.{hexValue, numberFrom, bigEndian, all, any, concat, join}
 use Rattle.rules.specs.Result.{_>>=_, _>>_, need, given, if_then_else_}
 use Rattle.rules.specs.Model.{absolute, reference, normalPath, normal}
 use Rattle.rules.specs.Utf8.{leadOf, leadFrom, utf8From, utf8}
@@ -18,5 +18,5 @@ use Rattle.rules.specs.Calls.{outcome, after, resolveCall, printed, text
 use Rattle.rules.specs.Views.{segmentView, authorityView}
 
 unfoldable pub computed : Unit {0}
-unfolding numberFrom bigEndian all any concat join _>>=_ _>>_ need given if_then_else_ absolute reference normalPath normal leadOf leadFrom utf8From utf8 codeOf kindOf width shortest headAt readHead majorOf headBytes schemes schemeIn knownScheme schemeByte startsLower schemeRule labelByte labelRule octet looksIPv4 nameRule segmentRule readContent textBody readText readTexts spans contents nullBody arrayBody readArray fragmentBody readFragment readNothing portBody readPort labelBody readNames addressHost labelsHost readAuthority afterScheme openingBody readOpening read components meaning readReference readAbsolute textItem arrayItem textsItem orNull tailItems portItems hostItems authorityItem schemeItem discardAlone withOpening encode start discarded appended copied resolve fits resolved digitByte numeral decimal ipv4Text groups zerosAhead runHere runLater longer longest hexGroups ipv6Text addressText bare hexDigit escapeByte escape marked schemeText hostText authorityText pathText queryText hierarchyText uriText uriHost portBytes uriPort options nibble extension optionBytes optionsFrom counted inside written readCall outcome after resolveCall printed textCall requested optionsCall writeCall segmentView authorityView
+unfolding hexValue numberFrom bigEndian all any concat join _>>=_ _>>_ need given if_then_else_ absolute reference normalPath normal leadOf leadFrom utf8From utf8 codeOf kindOf width shortest headAt readHead majorOf headBytes schemes schemeIn knownScheme schemeByte startsLower schemeRule labelByte labelRule octet looksIPv4 nameRule segmentRule readContent textBody readText readTexts spans contents nullBody arrayBody readArray fragmentBody readFragment readNothing portBody readPort labelBody readNames addressHost labelsHost readAuthority afterScheme openingBody readOpening read components meaning readReference readAbsolute textItem arrayItem textsItem orNull tailItems portItems hostItems authorityItem schemeItem discardAlone withOpening encode start discarded appended copied resolve fits resolved digitByte numeral decimal ipv4Text groups zerosAhead runHere runLater longer longest hexGroups ipv6Text addressText bare hexDigit escapeByte escape marked schemeText hostText authorityText pathText queryText hierarchyText uriText uriHost portBytes uriPort options nibble extension optionBytes optionsFrom counted inside written readCall outcome after resolveCall printed textCall requested optionsCall writeCall segmentView authorityView
 computed = tt

@@ -7,7 +7,7 @@ use lib.ListN.{length, drop}
 use lib.Seq.{take-at}
 use borrow.Author.Tests.{le-ltb}
 use Rattle.rules.specs.Bytes.{Bytes}
-use Rattle.rules.specs.Result.{ok, need, _>>_}
+use Rattle.rules.specs.Result.{ok, need, _>>_, RESULT}
 use Rattle.rules.specs.Model.{Limits, Cri, reference}
 use Rattle.rules.specs.Meaning.{readReference, readAbsolute}
 use Rattle.rules.specs.Encode.{encode}
@@ -91,10 +91,10 @@ resolving-proved lim small base ref b r hb hr eb er =
     let g : GoodCri c = good-resolve lim b r (good-read lim base b hb eb) (ok-at (canonical lim ref hr) er .1) in
     let is = resolved-is lim base ref b r eb er in
     record {
-      written = λ e. ap ruling (is ∙ ap (λ (t : Bool). need t 9 0 >> ok (encode (reference c))) e);
+      written = λ e. ap ruling (is ∙ ap (λ (t : Bool). need t RESULT 0 >> ok (encode (reference c))) e);
       valid = fits-valid lim c g;
       again = fits-read lim small c g;
-      refusal = λ e. ap ruling (is ∙ ap (λ (t : Bool). need t 9 0 >> ok (encode (reference c))) e);
+      refusal = λ e. ap ruling (is ∙ ap (λ (t : Bool). need t RESULT 0 >> ok (encode (reference c))) e);
     }
 
 pub empty-reference-proved : P.EmptyReference

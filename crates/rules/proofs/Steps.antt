@@ -11,6 +11,10 @@ use mathlib.Core.Bool.{Bool, true, false, not}
 use Rattle.rules.specs.Result.{Res, refused, ok, _>>=_, _>>_, need, if_then_else_}
 use Rattle.rules.proofs.Tools.{never}
 
+-- a refusal is no value
+pub refused-ok : {A B : Type 0} (n k : ℕ) (a : A) → refused n k ≡ ok a → B
+refused-ok n k a e = let z : _≡_ {A = ℕ} 0 1 = cc in absurd (omega arith)
+
 -- ---- one step of a walk
 
 pub need-yes : {A : Type 0} (t : Bool) (n k : ℕ) (r : Res A) → t ≡ true → r ≡ need t n k >> r
@@ -172,12 +176,9 @@ module _ {B : Type 0} {Q : Res B → Type 0} where
 pub kept-refused : {A : Type 0} {Q : Res A → Type 0} {r r′ : Res A} (n k : ℕ) → Kept Q r r′ → r ≡ refused n k → (n ≡ 1 → ⊥) → r′ ≡ refused n k
 kept-refused n k (cut-off {k = j}) e d = absurd (d (cc))
 kept-refused n k refused! e d = e
-kept-refused n k (accepted! {a = a} q) e d = absurd (differ a n k e)
-  where
-    differ : {A : Type 0} (a : A) (n k : ℕ) → ok a ≡ refused n k → ⊥
-    differ a n k e = let z : _≡_ {A = ℕ} 0 1 = cc in omega arith
+kept-refused n k (accepted! {a = a} q) e d = refused-ok n k a (sym e)
 
 pub kept-accepted : {A : Type 0} {Q : Res A → Type 0} {r r′ : Res A} (a : A) → Kept Q r r′ → r ≡ ok a → Q r′
-kept-accepted a (cut-off {k = j}) e = let z : _≡_ {A = ℕ} 0 1 = cc in absurd (omega arith)
-kept-accepted a (refused! {n = n}) e = let z : _≡_ {A = ℕ} 0 1 = cc in absurd (omega arith)
+kept-accepted a (cut-off {k = k}) e = refused-ok 1 k a e
+kept-accepted a (refused! {n = n} {k = k}) e = refused-ok n k a e
 kept-accepted a (accepted! q) e = q

@@ -1,33 +1,15 @@
 -- RULES 11: the table of small cases, and the other worked examples.
-use Prim.Native.Nat.{ℕ, zero, suc, _+_, _*_, _-_, _/_}
-use Prim.Native.Char.{code}
-use Prim.Native.String.{String, len, charAt}
+use Prim.Native.Nat.{ℕ}
+use Prim.Native.String.{String}
 use mathlib.Core.Path.{_≡_}
-use mathlib.Core.Bool.{cond}
 use mathlib.Core.List.{List, [], _∷_, _++_, map}
 use lib.ListN.{replicate}
-use lib.Dec.{ltb}
-use Rattle.rules.specs.Bytes.{Bytes, ascii}
+use Rattle.rules.specs.Bytes.{Bytes, ascii, hex}
 use Rattle.rules.specs.Result.{Res, refused, ok}
 use Rattle.rules.specs.Model.{limits}
 use Rattle.rules.specs.Reader.{Found, read}
 use Rattle.rules.specs.Address.{ipv6Text}
 use Rattle.rules.specs.Calls.{Ruling, refuse, write, resolveCall, textCall, optionsCall}
-
--- ---- bytes written as in the table: "82 00 F6"
-
--- an upper-case hex digit
-abbrev pub hexValue : ℕ → ℕ
-hexValue c = cond (ltb c 0x3A) (c - 0x30) (c - 0x37)
-
--- n bytes, from the character at i on
-abbrev pub pairs : String → ℕ → ℕ → Bytes
-pairs s i zero = []
-pairs s i (suc n) = (hexValue (code (charAt s i)) * 16 + hexValue (code (charAt s (i + 1)))) ∷ pairs s (i + 3) n
-
--- the bytes that the text spells
-abbrev pub hex : String → Bytes
-hex s = pairs s 0 ((len s + 1) / 3)
 
 -- ---- rows
 

@@ -24,7 +24,7 @@ abbrev pub hostSpans : Bytes → HostAt → Host Span
 hostSpans bs (addressAt at n) = address (span at n)
 hostSpans bs (labelsAt at n) = labels (spans bs at n)
 
--- and the port
+-- where the host stands, and the port
 abbrev pub authoritySpans : Bytes → AuthorityAt → Authority Span
 authoritySpans bs a = record { host = hostSpans bs (a .host); port = a .port }
 

@@ -7,7 +7,7 @@ use Rattle.rules.specs.Bytes.{Bytes}
 
 -- The parts of a reference. A text or an address is given as an A: as its bytes, or as where they stand in an input.
 
--- RULES 1.6, 1.7
+-- RULES 1.6, 1.7: a number or a text
 pub data Scheme (A : Type 0) : Type 0 where
   number : ℕ → Scheme A
   name : A → Scheme A
@@ -22,8 +22,8 @@ pub record Authority (A : Type 0) : Type 0 where
   pub host : Host A
   pub port : Option ℕ
 
--- RULES 1.2, 1.3: a discard, which is a number or true; or a scheme, or none, with an authority. Only RULES 9 knows an opening
--- that lacks both, or the authority: the reader refuses it.
+-- RULES 1.2, 1.3: a discard, which is a number or true; or a scheme, or none, with an authority. Components (RULES 9) may
+-- lack the authority too; the reader refuses what is written from those.
 pub data Opening (A : Type 0) : Type 0 where
   discard : ℕ → Opening A
   discardAll : Opening A

@@ -73,7 +73,7 @@ pub data Slot : Type 0 where
   unset : Slot
   set : ℕ → ℕ → Slot
 
--- and the position after it
+-- a slot, and the position after its item
 pub record SlotAt : Type 0 where
   pub slot : Slot
   pub next : ℕ
@@ -197,7 +197,7 @@ pub data SchemeAt : Type 0 where
   numberAt : ℕ → SchemeAt
   nameAt : ℕ → ℕ → SchemeAt
 
--- 1.2, 1.3
+-- 1.2, 1.3: what an opening says, or where it stands
 pub data OpeningAt : Type 0 where
   discardAt : ℕ → OpeningAt
   discardAllAt : OpeningAt
@@ -257,7 +257,7 @@ pub record Found : Type 0 where
   pub query : Slot
   pub fragment : Slot
 
--- the position of a refusal for length is the largest size
+-- 4.10: the place of an input that is too long is the largest size
 unfoldable pub read : Limits → Bytes → Res Found
 read lim bs = do
   need (leb (length bs) (lim .bytes)) LIMIT (lim .bytes)

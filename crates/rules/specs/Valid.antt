@@ -28,32 +28,32 @@ pub record GoodTexts (s : Sort) (low high : ℕ) (ts : List Bytes) : Type 0 wher
   pub count : within low high (length ts) ≡ true
   pub each : Each (Good s) ts
 
--- 2.6
+-- 2.6: an address of 4 or 16 bytes
 pub record GoodAddress (a : Bytes) : Type 0 where
   pub size : (eqb (length a) 4 || eqb (length a) 16) ≡ true
   pub octets : Octets a
 
--- 2.5
+-- 2.5: 1 to 8 labels, and the rules over all of them
 pub record GoodLabels (ts : List Bytes) : Type 0 where
   pub texts : GoodTexts label 1 8 ts
   pub name : nameRule ts ≡ true
 
--- 1.8
+-- 1.8: an address or labels
 abbrev pub GoodHost : Host Bytes → Type 0
 GoodHost (address a) = GoodAddress a
 GoodHost (labels ts) = GoodLabels ts
 
--- 1.8, 2.6
+-- 1.8, 2.6: a host, and a port up to 65535
 pub record GoodAuthority (a : Authority Bytes) : Type 0 where
   pub host : GoodHost (a .host)
   pub port : If (λ p. p ≤ 65535) (a .port)
 
--- 1.6, 1.7
+-- 1.6, 1.7: a number of the table, or a text
 abbrev pub GoodScheme : Scheme Bytes → Type 0
 GoodScheme (number n) = knownScheme n ≡ true
 GoodScheme (name t) = Good schemeName t
 
--- 1.3: an authority is required
+-- 1.2, 1.3: a discard up to 127; beside a scheme, or none, an authority is required
 abbrev pub GoodOpening : Opening Bytes → Type 0
 GoodOpening (discard k) = k ≤ 127
 GoodOpening discardAll = Unit {0}

@@ -14,39 +14,39 @@ use Rattle.rules.specs.Encode.{encode}
 
 -- ---- the texts and addresses of the parts of a reference
 
--- its labels
+-- the labels of a host
 abbrev pub labelsOf : {A : Type 0} → Host A → List A
 labelsOf (address a) = []
 labelsOf (labels ts) = ts
 
--- its address or its labels
+-- the address or the labels of a host
 abbrev pub hostTexts : {A : Type 0} → Host A → List A
 hostTexts (address a) = a ∷ []
 hostTexts (labels ts) = ts
 
--- its text
+-- the text of a scheme, where it has one
 abbrev pub schemeTexts : {A : Type 0} → Scheme A → List A
 schemeTexts (number n) = []
 schemeTexts (name t) = t ∷ []
 
--- those of what is set
+-- the same of what may be unset
 abbrev pub whereSet : {A B : Type 0} → (A → List B) → Option A → List B
 whereSet f none = []
 whereSet f (some a) = f a
 
--- of scheme and authority
+-- the texts and addresses of an opening
 abbrev pub openingTexts : {A : Type 0} → Opening A → List A
 openingTexts (discard k) = []
 openingTexts discardAll = []
 openingTexts (full s a) = whereSet schemeTexts s ++ whereSet (λ a. hostTexts (a .host)) a
 
--- the labels
+-- the labels of an opening
 abbrev pub openingLabels : {A : Type 0} → Opening A → List A
 openingLabels (discard k) = []
 openingLabels discardAll = []
 openingLabels (full s a) = whereSet (λ a. labelsOf (a .host)) a
 
--- of the whole
+-- every text and address
 abbrev pub allTexts : {A : Type 0} → Parts A → List A
 allTexts c = openingTexts (c .opening) ++ elements (c .path) ++ elements (c .query) ++ whereSet (λ t. t ∷ []) (c .fragment)
 
@@ -67,7 +67,7 @@ abbrev pub placeless : {A : Type 0} → Res A → Res A
 placeless (refused n k) = refused n 0
 placeless (ok a) = ok a
 
--- 9.2, 9.3
+-- 9.2: 4; 9.3: then the number that the reader has for the encoding
 unfoldable pub written : Limits → Components → Bytes → Res Bytes
 written lim c lent = do
   need (counted lim c) LIMIT 0
