@@ -2,12 +2,13 @@
 use Prim.Native.Nat.{ℕ, zero, suc, _+_, _*_, _-_, _/_, _%_, _^_, _≤_, _<_}
 use native.Mathlib.Omega.{arith}
 use native.Mathlib.Numerals.{add-one}
-use native.Mathlib.Nat.{mul-assoc, zero-add, pow-suc}
+use native.Mathlib.Nat.{mul-assoc, zero-add, pow-suc, div-one}
 use mathlib.Core.Path.{_≡_, refl, sym, ap, ap₂, _∙_, subst}
 use mathlib.Core.Bool.{Bool, true, false, cond}
 use mathlib.Core.List.{[], _∷_, _++_, append-nil}
 use lib.ListN.{length, getD, take, drop, length-drop, take-append-drop}
 use lib.Seq.{drop-cons, length-take-le, drop-drop}
+use lib.Pow.{shr-shr}
 use lib.Dec.{leb, ltb, eqb}
 use borrow.Author.Tests.{ltb-true, leb-true, eqb-true, lt-ltb, le-ltb, le-leb, eq-eqb}
 use Rattle.rules.specs.Bytes.{Bytes, Octets, part, numberFrom, bigEndian}
@@ -92,6 +93,15 @@ pub length-big : (n v : ℕ) (rest : Bytes) → length (bigEndian n v rest) ≡ 
 unfolding bigEndian
 length-big zero v rest = sym (zero-add (length rest))
 length-big (suc n) v rest = length-big n (v / 256) (v % 256 ∷ rest) ∙ omega arith
+
+-- the highest of n + 1 bytes, and the others
+pub big-high : (n v : ℕ) (rest : Bytes) → bigEndian (suc n) v rest ≡ v / 2 ^ (8 * n) % 256 ∷ bigEndian n v rest
+unfolding bigEndian
+big-high zero v rest = ap (λ (x : ℕ). x % 256 ∷ rest) (sym (div-one v))
+big-high (suc n) v rest =
+    let e : 8 + 8 * n ≡ 8 * suc n = omega arith in
+    big-high n (v / 256) (v % 256 ∷ rest)
+    ∙ ap (λ (x : ℕ). x % 256 ∷ bigEndian n (v / 256) (v % 256 ∷ rest)) (shr-shr v 8 (8 * n) ∙ ap (λ (k : ℕ). v / 2 ^ k) e)
 
 pub octets-big : (n v : ℕ) (rest : Bytes) → Octets rest → Octets (bigEndian n v rest)
 unfolding bigEndian

@@ -60,7 +60,7 @@ scheme-length (number n) h =
     omega (arith, head-some Negative n)
 scheme-length (name t) h = omega (arith, text-length t)
 
-ipv4-length : (bs : Bytes) → Octets bs → length (join dot (map decimal bs)) ≤ 4 * length bs - 1
+pub ipv4-length : (bs : Bytes) → Octets bs → length (join dot (map decimal bs)) ≤ 4 * length bs - 1
 unfolding join
 ipv4-length [] h = omega arith
 ipv4-length (b ∷ []) h = omega (arith, decimal-three b (h .0))

@@ -1,12 +1,12 @@
 -- Facts on Booleans, on lists and on positions in bytes.
-use Prim.Native.Nat.{ℕ, zero, suc, _+_, _≤_, _<_}
+use Prim.Native.Nat.{ℕ, zero, suc, _+_, _-_, _≤_, _<_}
 use native.Mathlib.Nat.{le-of-suc-le-suc, not-suc-le-zero, add-zero}
 use native.Mathlib.Omega.{arith}
 use mathlib.Core.Path.{_≡_, refl, sym, ap, _∙_}
 use mathlib.Core.Bool.{Bool, true, false, cond, _&&_, _||_, false≢true}
 use mathlib.Core.List.{List, [], _∷_, _++_, append-assoc}
 use lib.ListN.{length, getD, take, drop, length-drop, length-append, take-append-drop, List·getD-append}
-use lib.Seq.{length-take-le, drop-drop, getD-drop, take-at, drop-at, drop-append-le, take-append-le}
+use lib.Seq.{length-take-le, drop-cons, drop-drop, getD-drop, take-at, drop-at, drop-append-le, take-append-le}
 use lib.Dec.{leb}
 use borrow.Author.Tests.{ltb-true, ltb-false, leb-true, leb-false, eqb-true, eq-eqb, le-leb}
 use Rattle.rules.specs.Bytes.{Bytes, Each, Octets, part, within, all, same, concat}
@@ -154,6 +154,25 @@ take-at-drop bs at n xs ys l e = ap (take n) e ∙ take-at xs ys n l
 
 pub fits-at-drop : (bs : Bytes) (at b : ℕ) (xs ys : Bytes) → drop at bs ≡ b ∷ xs ++ ys → at + 1 + length xs ≤ length bs
 fits-at-drop bs at b xs ys e = omega (arith, length-drop at bs, ap length e, length-append xs ys)
+
+-- the n bytes from i on: none, or the one at i and the m bytes from j on
+pub part-none : (bs : Bytes) (i n : ℕ) → n ≡ 0 → part bs i n ≡ []
+part-none bs i n e = ap (part bs i) e
+
+pub part-cons : (bs : Bytes) (i n j m : ℕ) → i < length bs → n ≡ suc m → j ≡ suc i → part bs i n ≡ getD bs i 0 ∷ part bs j m
+part-cons bs i n j m h e d = ap (part bs i) e ∙ ap (take (suc m)) (drop-cons bs i 0 h ∙ ap (λ (k : ℕ). getD bs i 0 ∷ drop k bs) (sym d))
+
+-- ---- a walk over the bytes from i up to `end`
+
+-- the whole, as such a walk begins
+pub part-whole : (bs : Bytes) (from n : ℕ) → part bs from n ≡ part bs from (from + n - from)
+part-whole bs from n = let e : n ≡ from + n - from = omega arith in ap (part bs from) e
+
+pub part-step : (bs : Bytes) (i end : ℕ) → i < end → end ≤ length bs → part bs i (end - i) ≡ getD bs i 0 ∷ part bs (i + 1) (end - (i + 1))
+part-step bs i end h l = part-cons bs i (end - i) (i + 1) (end - (i + 1)) (omega arith) (omega arith) (omega arith)
+
+pub part-end : (bs : Bytes) (i end : ℕ) → end ≤ i → part bs i (end - i) ≡ []
+part-end bs i end h = part-none bs i (end - i) (omega arith)
 
 -- ---- more bytes at the end
 

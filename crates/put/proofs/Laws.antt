@@ -1,0 +1,124 @@
+-- The laws of writing into a lent room. `Wrote` is what a piece says when it is done, `Left` the invariant of a loop that writes.
+use Prim.Native.Nat.{ℕ, suc, _+_, _-_, _<_, _≤_}
+use native.Mathlib.Numerals.{towards-suc}
+use native.Mathlib.Nat.{zero-add, add-zero, add-suc, suc-add}
+use native.Mathlib.Omega.{arith}
+use mathlib.Core.Path.{_≡_, refl, sym, ap, _∙_}
+use mathlib.Core.List.{[], _∷_, _++_, append-assoc}
+use lib.ListN.{length, set, getD, take, drop, length-append}
+use lib.Seq.{sets, sets-eq, length-sets, length-take-le, take-at, drop-at}
+use Rattle.rules.specs.Bytes.{Bytes, part}
+use Rattle.rules.proofs.Tools.{part-whole, part-step, part-end}
+use Rattle.put.specs.Wrote.{Wrote}
+
+-- ---- pieces one after the other
+
+sets-append : (v w l : Bytes) (i : ℕ) → sets (sets l i v) (i + length v) w ≡ sets l i (v ++ w)
+sets-append [] w l i = rw add-zero
+sets-append (a ∷ v) w l i = rw (add-suc, ← suc-add) (sets-append v w (set l i a) (suc i))
+
+pub wrote-then : {a b c v w : Bytes} {i j k : ℕ} → Wrote a i v b j → Wrote b j w c k → Wrote a i (v ++ w) c k
+wrote-then {a} {b} {c} {v} {w} {i} {j} {k} p q = record {
+  bytes = q .bytes ∙ rw (p .bytes, p .place) (sets-append v w a i);
+  place = omega (arith, length-append v w);
+}
+
+pub wrote-none : {l : Bytes} {i : ℕ} → Wrote l i [] l i
+wrote-none {l} {i} = record { bytes = refl; place = sym (add-zero i) }
+
+pub wrote-one : {l : Bytes} {i a : ℕ} → Wrote l i (a ∷ []) (set l i a) (i + 1)
+wrote-one = record { bytes = refl; place = refl }
+
+pub wrote-three : {l : Bytes} {i a b d : ℕ} → Wrote l i (a ∷ b ∷ d ∷ []) (set (set (set l i a) (i + 1) b) (i + 2) d) (i + 3)
+wrote-three = record { bytes = simp towards-suc; place = refl }
+
+-- the room keeps its length
+pub wrote-length : {a b w : Bytes} {i k : ℕ} → Wrote a i w b k → length b ≡ length a
+wrote-length {a} {b} {w} {i} p = rw (p .bytes) (length-sets a i w)
+
+-- what is written from 0 on: the bytes, and what stood behind them
+pub wrote-all : {a b w : Bytes} {k : ℕ} → Wrote a 0 w b k → length w ≤ length a → (k ≡ length w) × (b ≡ w ++ drop (length w) a)
+wrote-all {a} {b} {w} p h = (omega arith, p .bytes ∙ rw zero-add at (sets-eq w a 0 (rw zero-add h)))
+
+-- what was written stands there, and what stood behind it still does
+pub wrote-stands : {a b w : Bytes} {i k : ℕ} → Wrote a i w b k → i + length w ≤ length a → drop i b ≡ w ++ drop k a
+wrote-stands {a} {b} {w} {i} {k} p h =
+    ap (drop i) (p .bytes ∙ sets-eq w a i h ∙ append-assoc (take i a) w (drop (i + length w) a))
+    ∙ drop-at (take i a) (w ++ drop (i + length w) a) i (length-take-le i a (omega arith))
+    ∙ ap (λ (n : ℕ). w ++ drop n a) (sym (p .place))
+
+-- and what stood before it
+pub wrote-before : {a b w : Bytes} {i k : ℕ} → Wrote a i w b k → i + length w ≤ length a → take i b ≡ take i a
+wrote-before {a} {b} {w} {i} {k} p h =
+    ap (take i) (p .bytes ∙ sets-eq w a i h ∙ append-assoc (take i a) w (drop (i + length w) a))
+    ∙ take-at (take i a) (w ++ drop (i + length w) a) i (length-take-le i a (omega arith))
+
+-- ---- a loop that writes: w is left to be written at o, where all of it was w₀, from `at` on, in room₀
+
+pub record Left (room : Bytes) (o : ℕ) (w room₀ : Bytes) (at : ℕ) (w₀ : Bytes) : Type 0 where
+  pub bytes : sets room o w ≡ sets room₀ at w₀
+  pub place : o + length w ≡ at + length w₀
+  pub size : length room ≡ length room₀
+
+-- the same with the next piece, v, apart
+pub record Next (room : Bytes) (o : ℕ) (v w room₀ : Bytes) (at : ℕ) (w₀ : Bytes) : Type 0 where
+  pub left : Left room o (v ++ w) room₀ at w₀
+
+pub left-all : {room w : Bytes} {at : ℕ} → Left room at w room at w
+left-all = record { bytes = refl; place = refl; size = refl }
+
+pub left-done : {room room₀ w₀ : Bytes} {o at : ℕ} → Left room o [] room₀ at w₀ → Wrote room₀ at w₀ room o
+left-done l = record { bytes = l .bytes; place = omega arith }
+
+module _ {room v w room₀ w₀ : Bytes} {o at : ℕ} (n : Next room o v w room₀ at w₀) where
+  -- the next piece has room where the whole has
+  pub next-room : at + length w₀ ≤ length room₀ → o + length v ≤ length room
+  next-room h = omega (arith, length-append v w, n .left .place, n .left .size)
+
+  pub next-wrote : {room′ : Bytes} {o′ : ℕ} → Wrote room o v room′ o′ → Left room′ o′ w room₀ at w₀
+  next-wrote p = record {
+    bytes = rw (p .bytes, p .place) (sets-append v w room o ∙ n .left .bytes);
+    place = omega (arith, length-append v w, n .left .place);
+    size = rw (p .bytes) (length-sets room o v ∙ n .left .size);
+  }
+
+-- ---- a loop that measures: n is passed of m, and w is left
+
+pub record Count (n : ℕ) (w : Bytes) (m : ℕ) : Type 0 where
+  pub sum : n + length w ≡ m
+
+pub record CountNext (n : ℕ) (v w : Bytes) (m : ℕ) : Type 0 where
+  pub sum : n + length v + length w ≡ m
+
+pub count-all : {w : Bytes} → Count 0 w (length w)
+count-all = record { sum = omega arith }
+
+pub counted : {n r m : ℕ} {v w : Bytes} → CountNext n v w m → r ≡ length v → Count (n + r) w m
+counted n e = record { sum = omega arith }
+
+-- ---- both over the bytes of s from i up to `end`, where g of a byte is written for each, and f is all of it
+
+-- before the first turn
+module _ (f : Bytes → Bytes) (s : Bytes) (from n : ℕ) where
+  pub left-whole : {room : Bytes} {at : ℕ} → Left room at (f (part s from (from + n - from))) room at (f (part s from n))
+  left-whole = rw (← part-whole s from n) left-all
+
+  pub count-whole : Count 0 (f (part s from (from + n - from))) (length (f (part s from n)))
+  count-whole = rw (← part-whole s from n) count-all
+
+module _ (f : Bytes → Bytes) (g : ℕ → Bytes) (each : (x : ℕ) (xs : Bytes) → f (x ∷ xs) ≡ g x ++ f xs) (none : f [] ≡ []) (s : Bytes) (i end : ℕ) where
+  pub next : {room room₀ w₀ : Bytes} {o at : ℕ} → i < end → end ≤ length s → Left room o (f (part s i (end - i))) room₀ at w₀
+      → Next room o (g (getD s i 0)) (f (part s (i + 1) (end - (i + 1)))) room₀ at w₀
+  next h k l = record { left = rw (part-step s i end h k, each (getD s i 0) (part s (i + 1) (end - (i + 1)))) at l }
+
+  pub last : {room room₀ w₀ : Bytes} {o at : ℕ} → end ≤ i → Left room o (f (part s i (end - i))) room₀ at w₀ → Wrote room₀ at w₀ room o
+  last h l = left-done (rw (part-end s i end h, none) at l)
+
+  pub count-next : {n m : ℕ} → i < end → end ≤ length s → Count n (f (part s i (end - i))) m
+      → CountNext n (g (getD s i 0)) (f (part s (i + 1) (end - (i + 1)))) m
+  count-next h k e =
+      let rest : Bytes = f (part s (i + 1) (end - (i + 1))) in
+      record { sum = omega (arith, rw (part-step s i end h k, each (getD s i 0) (part s (i + 1) (end - (i + 1)))) at (e .sum), length-append (g (getD s i 0)) rest) }
+
+  pub count-last : {n m : ℕ} → end ≤ i → Count n (f (part s i (end - i))) m → n ≡ m
+  count-last h e = omega (arith, rw (part-end s i end h, none) at (e .sum))
