@@ -1,0 +1,4 @@
+-- The laws of heads that callers use, and the laws that the functions' proofs cite.
+pub mod Numbers
+pub mod Heads
+pub mod Schemes

@@ -1,0 +1,3 @@
+-- What the code's answers say, in the terms of the rules.
+pub mod Heads
+pub mod Schemes

@@ -1,0 +1,316 @@
+// The heads of CBOR items (STD 94, section 3), read and written, and the negative integers that carry scheme numbers.
+ghost use mathlib.Core.Path.{_≡_};
+ghost use Prim.Native.Nat.{ℕ, _+_, _<_, _≤_, _^_};
+ghost use lib.ListN.{length};
+ghost use lib.IntN.{negsuc};
+ghost use Rattle.rules.specs.Bytes.{part, numberFrom};
+ghost use Rattle.rules.specs.Head.{Kind as Kind·rules, kindOf, width, shortest, readHead, majorOf, headBytes};
+ghost use Rattle.rules.proofs.Heads.{Fits};
+ghost use Rattle.put.specs.Wrote.{Wrote};
+ghost use Rattle.cbor.specs.Heads.{kindIs, allows, itemIs, accepted, argumentIs, leastOf, readArgument};
+ghost use Rattle.cbor.specs.Schemes.{Below, schemeId, schemeNumber};
+use put::put_big_endian;
+use put::put_byte;
+
+// What an item is, by its first byte.
+pub enum Kind {
+    Number,
+    Negative,
+    ByteString,
+    Text,
+    Array,
+    True,
+    Null,
+    Other,
+}
+
+// Which kinds are allowed at a place; `yes` is true.
+pub struct Kinds {
+    pub number: bool,
+    pub negative: bool,
+    pub byte_string: bool,
+    pub text: bool,
+    pub array: bool,
+    pub yes: bool,
+    pub null: bool,
+}
+
+// An item's head and the position after it; or a refusal's number.
+pub enum Item {
+    // The value.
+    Number(u64, usize),
+    // n of the number -1 - n.
+    Negative(u64, usize),
+    // The length of the content.
+    ByteString(u64, usize),
+    Text(u64, usize),
+    // How many items the array has.
+    Array(u64, usize),
+    True(usize),
+    Null(usize),
+    Refused(u8),
+}
+
+// A head's number and the position after the head; or a refusal's number.
+enum Argument {
+    Is(u64, usize),
+    Refused(u8),
+}
+
+// The kind that a first byte above those of arrays gives.
+fn simple_of(b: u8) -> Kind
+    requires { ⌜ 0xA0 ≤ b ⌝ }
+    ensures { λ r. ⌜ kindIs r ≡ kindOf b ⌝ }
+{
+    match b {
+        0xf5 => Kind::True,
+        0xf6 => Kind::Null,
+        _ => Kind::Other,
+    }
+}
+
+// The kind that a first byte gives.
+fn kind_of(b: u8) -> Kind
+    ensures { λ r. ⌜ kindIs r ≡ kindOf b ⌝ }
+{
+    match b {
+        0x00..=0x1f => Kind::Number,
+        0x20..=0x3f => Kind::Negative,
+        0x40..=0x5f => Kind::ByteString,
+        0x60..=0x7f => Kind::Text,
+        0x80..=0x9f => Kind::Array,
+        _ => simple_of(b),
+    }
+}
+
+// Whether a kind is one of these.
+fn is_allowed(allowed: Kinds, kind: Kind) -> bool
+    ensures { λ r. ⌜ r ≡ allows allowed (kindIs kind) ⌝ }
+{
+    match kind {
+        Kind::Number => allowed.number,
+        Kind::Negative => allowed.negative,
+        Kind::ByteString => allowed.byte_string,
+        Kind::Text => allowed.text,
+        Kind::Array => allowed.array,
+        Kind::True => allowed.yes,
+        Kind::Null => allowed.null,
+        Kind::Other => false,
+    }
+}
+
+// The number of w bytes from a position on, at most 8, the highest first.
+fn number_at(s: &[u8], from: usize, w: usize) -> u64
+    requires { ⌜ (from + w ≤ length (now s)) × (w ≤ 8) ⌝ }
+    ensures { λ r. ⌜ r ≡ numberFrom 0 (part (now (s .entry)) from w) ⌝ }
+{
+    let end = from + w;
+    let mut i = from;
+    let mut v: u64 = 0;
+    while i < end {
+        v = v * 256 + (s[i] as u64);
+        i += 1;
+    }
+    v
+}
+
+// How many bytes follow the first byte of a head with this head information.
+fn width_of(info: u8) -> usize
+    requires { ⌜ info < 28 ⌝ }
+    ensures { λ r. ⌜ r ≡ width info ⌝ }
+{
+    match info {
+        0..=23 => 0,
+        24 => 1,
+        25 => 2,
+        26 => 4,
+        _ => 8,
+    }
+}
+
+// The least number that needs a head with this head information, 24 to 27.
+fn least_of(info: u8) -> u64
+    ensures { λ r. ⌜ r ≡ leastOf info ⌝ }
+{
+    match info {
+        24 => 24,
+        25 => 256,
+        26 => 65536,
+        _ => 4294967296,
+    }
+}
+
+// The number that stands after the first byte of the head at a position.
+fn long_at(s: &[u8], at: usize, info: u8) -> Argument
+    requires { ⌜ (at < length (now s)) × (24 ≤ info) × (info < 28) ⌝ }
+    ensures { λ r. ⌜ ((k : Kind·rules) → argumentIs k at r ≡ readArgument k info (now (s .entry)) at) ⌝ }
+{
+    let from = at + 1;
+    let w = width_of(info);
+    if s.len() - from < w {
+        return Argument::Refused(1);
+    }
+    let v = number_at(s, from, w);
+    if v < least_of(info) {
+        return Argument::Refused(3);
+    }
+    Argument::Is(v, from + w)
+}
+
+// The number of the head at a position, by its head information: the lowest five bits of the first byte.
+fn argument_at(s: &[u8], at: usize, info: u8) -> Argument
+    requires { ⌜ at < length (now s) ⌝ }
+    ensures { λ r. ⌜ ((k : Kind·rules) → argumentIs k at r ≡ readArgument k info (now (s .entry)) at) ⌝ }
+{
+    match info {
+        0..=23 => Argument::Is(info as u64, at + 1),
+        24..=27 => long_at(s, at, info),
+        _ => Argument::Refused(3),
+    }
+}
+
+// The answer on a head that is accepted.
+fn item_of(kind: Kind, v: u64, next: usize) -> Item
+    requires { ⌜ Fits (kindIs kind) v ⌝ }
+    ensures { λ r. ⌜ ((at : ℕ) → itemIs at r ≡ accepted (kindIs kind) v next) ⌝ }
+{
+    match kind {
+        Kind::Number => Item::Number(v, next),
+        Kind::Negative => Item::Negative(v, next),
+        Kind::ByteString => Item::ByteString(v, next),
+        Kind::Text => Item::Text(v, next),
+        Kind::Array => Item::Array(v, next),
+        Kind::True => Item::True(next),
+        Kind::Null => Item::Null(next),
+        Kind::Other => Item::Refused(2),
+    }
+}
+
+// The head of the item at a position, where these kinds are allowed.
+pub fn item_at(s: &[u8], at: usize, allowed: Kinds) -> Item
+    ensures { λ r. ⌜ itemIs at r ≡ readHead (allows allowed) (now (s .entry)) at ⌝ }
+{
+    if s.len() <= at {
+        return Item::Refused(1);
+    }
+    let b = s[at];
+    let kind = kind_of(b);
+    if is_allowed(allowed, kind) {
+        match argument_at(s, at, b % 32) {
+            Argument::Is(v, next) => item_of(kind, v, next),
+            Argument::Refused(n) => Item::Refused(n),
+        }
+    } else {
+        Item::Refused(2)
+    }
+}
+
+// The head information that the shortest head of a number has.
+pub fn shortest_of(v: u64) -> u8
+    ensures { λ r. ⌜ r ≡ shortest v ⌝ }
+{
+    if v < 24 {
+        return v as u8;
+    }
+    if v < 256 {
+        return 24;
+    }
+    if v < 65536 {
+        return 25;
+    }
+    if v < 4294967296 {
+        return 26;
+    }
+    27
+}
+
+// How many bytes the shortest head of a number has, for every kind.
+pub fn head_length(v: u64) -> usize
+    ensures { λ r. ⌜ ((k : Kind·rules) → r ≡ length (headBytes k v)) ⌝ }
+{
+    match shortest_of(v) {
+        24 => 2,
+        25 => 3,
+        26 => 5,
+        27 => 9,
+        _ => 1,
+    }
+}
+
+// STD 94, section 3: the major type of a kind.
+fn major_of(kind: Kind) -> u8
+    ensures { λ r. ⌜ r ≡ majorOf (kindIs kind) ⌝ }
+{
+    match kind {
+        Kind::Number => 0,
+        Kind::Negative => 1,
+        Kind::ByteString => 2,
+        Kind::Text => 3,
+        Kind::Array => 4,
+        Kind::True => 7,
+        Kind::Null => 7,
+        Kind::Other => 7,
+    }
+}
+
+// The shortest head of this kind and number: true is 21, null 22.
+pub fn put_head(room: &mut [u8], at: usize, kind: Kind, v: u64) -> usize
+    requires { ⌜ at + length (headBytes (kindIs kind) v) ≤ length (now room) ⌝ }
+    ensures { λ r. ⌜ Wrote (now (room .entry)) at (headBytes (kindIs kind) v) (now (room .exit)) r ⌝ }
+{
+    let info = shortest_of(v);
+    let p = put_byte(room, at, major_of(kind) * 32 + info);
+    put_big_endian(room, p, width_of(info), v)
+}
+
+// The negative integer that carries a scheme number.
+pub enum SchemeId {
+    Is(i64),
+    TooLarge,
+}
+
+// The scheme number that an integer carries.
+pub enum SchemeNumber {
+    Is(u64),
+    NotNegative,
+}
+
+// -1 - number
+fn id_of(number: u64) -> i64
+    requires { ⌜ number < 2 ^ 63 ⌝ }
+    ensures { λ r. ⌜ r ≡ negsuc number ⌝ }
+{
+    -(number as i64) - 1
+}
+
+// n of the integer -1 - n.
+fn number_of(id: i64) -> u64
+    requires { ⌜ Below id ⌝ }
+    ensures { λ r. ⌜ id ≡ negsuc r ⌝ }
+{
+    let m = -(id + 1);
+    m as u64
+}
+
+// The negative integer that carries a scheme number, if 64 bits hold it.
+pub fn scheme_id(number: u64) -> SchemeId
+    ensures { λ r. ⌜ r ≡ schemeId number ⌝ }
+{
+    if number < 9223372036854775808 {
+        let id = id_of(number);
+        SchemeId::Is(id)
+    } else {
+        SchemeId::TooLarge
+    }
+}
+
+// The scheme number that an integer carries, if the integer is negative.
+pub fn scheme_number(id: i64) -> SchemeNumber
+    ensures { λ r. ⌜ r ≡ schemeNumber id ⌝ }
+{
+    if id < 0 {
+        SchemeNumber::Is(number_of(id))
+    } else {
+        SchemeNumber::NotNegative
+    }
+}
