@@ -1,0 +1,91 @@
+// Measures the proved functions against plain Rust, after a comparison of their answers. Arguments: the names of the leaves to measure (none: all).
+use std::hint::black_box;
+use std::time::Instant;
+
+mod address;
+mod escape;
+mod items;
+mod utf8;
+
+// A generator with a fixed seed.
+pub struct Random(u64);
+
+impl Random {
+    pub fn new() -> Random {
+        Random(88172645463325252)
+    }
+
+    pub fn next(&mut self) -> u64 {
+        self.0 ^= self.0 << 13;
+        self.0 ^= self.0 >> 7;
+        self.0 ^= self.0 << 17;
+        self.0
+    }
+
+    pub fn below(&mut self, n: usize) -> usize {
+        (self.next() % n as u64) as usize
+    }
+}
+
+// The room that the writing calls are lent.
+pub fn room() -> &'static mut [u8] {
+    static mut ROOM: [u8; 1024] = [0; 1024];
+    unsafe { (&raw mut ROOM).as_mut().unwrap() }
+}
+
+// How many inputs there are of each size: more than the processor learns the way through.
+pub const INPUTS: usize = 4096;
+
+pub type Call<I, O> = (&'static str, fn(&I) -> O);
+
+// Ends the program where two calls differ on an input.
+pub fn agree<I: std::fmt::Debug, O: PartialEq + std::fmt::Debug>(input: &I, calls: &[Call<I, O>]) {
+    let first = calls[0].1(input);
+    for (name, call) in &calls[1..] {
+        let other = call(input);
+        if other != first {
+            eprintln!("{}: {:?}, {}: {:?}, on {:02x?}", calls[0].0, first, name, other, input);
+            std::process::exit(1);
+        }
+    }
+}
+
+// A table: for each size the least time of each call, in ns, over all inputs of that size, and the first's ratio to the fastest other. The calls take turns.
+pub fn compare<I, O>(name: &str, sizes: &[usize], inputs: impl Fn(usize) -> Vec<I>, calls: &[Call<I, O>]) {
+    print!("{name:<16}");
+    for (call, _) in calls {
+        print!("{call:>10}");
+    }
+    println!("{:>8}", "ratio");
+    for &size in sizes {
+        let inputs = inputs(size);
+        let mut best = vec![f64::MAX; calls.len()];
+        for _ in 0..100 {
+            for (best, (_, call)) in best.iter_mut().zip(calls) {
+                let call = black_box(*call);
+                let start = Instant::now();
+                for input in &inputs {
+                    black_box(call(input));
+                }
+                let each = start.elapsed().as_secs_f64() * 1e9 / inputs.len() as f64;
+                *best = best.min(each);
+            }
+        }
+        print!("{size:>16}");
+        for time in &best {
+            print!("{time:>10.2}");
+        }
+        let rust = best[1..].iter().copied().fold(f64::MAX, f64::min);
+        println!("{:>8.2}", best[0] / rust);
+    }
+}
+
+fn main() {
+    let names: Vec<String> = std::env::args().skip(1).collect();
+    let leaves: [(&str, fn()); 4] = [("utf8", utf8::measure), ("items", items::measure), ("escape", escape::measure), ("address", address::measure)];
+    for (name, measure) in leaves {
+        if names.is_empty() || names.iter().any(|n| n == name) {
+            measure();
+        }
+    }
+}

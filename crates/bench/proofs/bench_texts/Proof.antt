@@ -1,0 +1,61 @@
+-- `bench::bench_texts` meets its contract: what is left is read from where the last item ended.
+use mathlib.Core.Path.{_≡_, refl, sym, ap, _∙_}
+use native.Mathlib.Omega.{arith}
+use denote.Ref.{now}
+use Rattle.rules.specs.Head.{Text, is}
+use Rattle.bench.specs.Code.{items, answer, stepIs}
+use Rattle.bench.proofs.Items.{items-next, items-refused, items-end}
+use borrow.Author.Needs.{needs}
+use Rattle.bench.proofs.bench_texts.Statement.{statement}
+use Rattle.bench.proofs.bench_texts.Tie as tie
+
+abbrev Inv-loop : tie.InvT-loop
+Inv-loop s count at₀ left₀ at left = items (is Text) s 0 count ≡ items (is Text) s at left
+
+abbrev μ-loop : tie.MeasureT-loop
+μ-loop s count at₀ left₀ at left = left
+
+loop-holds : tie.Need-loop-holds Inv-loop μ-loop
+loop-holds c = refl
+
+after-text-requires : tie.Need-after-text-requires Inv-loop μ-loop
+after-text-requires c κs = search needs
+
+enum-known-k : tie.Need-enum-known-k Inv-loop μ-loop
+enum-known-k c = search needs
+
+cast-t9 : tie.Need-cast-t9 Inv-loop μ-loop
+cast-t9 c = search needs
+
+returns : tie.Need-returns Inv-loop μ-loop
+returns c =
+    let a = c .before .before .before in
+    let l = a .before .before .loop in
+    let e = ap (stepIs (l .at)) (sym (c .before .k .given .1)) ∙ a .after-text .ensures in
+    ap answer (sym (l .inv ∙ items-refused (is Text) (now (a .before .before .before .before .args .s)) (l .at) _ (l .left) (a .before .loop-test .taken) e))
+
+enum-known-next : tie.Need-enum-known-next Inv-loop μ-loop
+enum-known-next c = search needs
+
+sub-left : tie.Need-sub-left Inv-loop μ-loop
+sub-left c = search needs
+
+loop-less : tie.Need-loop-less Inv-loop μ-loop
+loop-less c = search needs
+
+loop-again : tie.Need-loop-again Inv-loop μ-loop
+loop-again c =
+    let a = c .before .before .before in
+    let l = a .before .before .loop in
+    let e = ap (stepIs (l .at)) (sym (c .before .next .given .1)) ∙ a .after-text .ensures in
+    l .inv ∙ items-next (is Text) (now (a .before .before .before .before .args .s)) (l .at) _ (l .left) (a .before .loop-test .taken) e
+
+returns-2 : tie.Need-returns-2 Inv-loop μ-loop
+returns-2 c =
+    let l = c .before .loop in
+    ap answer (sym (l .inv ∙ items-end (is Text) (now (c .before .before .before .args .s)) (l .at) (l .left) (omega arith)))
+
+pub bench-texts-spec : {M : Type 1} → statement M
+bench-texts-spec =
+    tie.close
+    (tie.spec Inv-loop μ-loop loop-holds after-text-requires enum-known-k cast-t9 returns enum-known-next sub-left loop-less loop-again returns-2)
