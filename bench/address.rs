@@ -1,5 +1,5 @@
 // The text of an IPv6 address (RFC 5952).
-use crate::{Call, compare, INPUTS, Random, room};
+use crate::{Call, compare, inputs, Random, room};
 use std::net::Ipv6Addr;
 
 extern "C" {
@@ -109,10 +109,10 @@ pub fn measure() {
     check();
     println!("address: the texts agree");
     for (name, zeros) in [("no zeros", 0), ("some zeros", 40), ("many zeros", 80)] {
-        let inputs = |_: usize| {
+        let made = |_: usize| {
             let mut random = Random::new();
-            (0..INPUTS).map(|_| address(&mut random, zeros)).collect::<Vec<Input>>()
+            (0..inputs()).map(|_| address(&mut random, zeros)).collect::<Vec<Input>>()
         };
-        compare(name, &[16], inputs, &CALLS);
+        compare(name, &[16], made, &CALLS);
     }
 }

@@ -1,5 +1,5 @@
 // Texts escaped into a room: measured, compared with the room, and written.
-use crate::{Call, compare, INPUTS, Random, room};
+use crate::{Call, compare, inputs, Random, room};
 
 extern "C" {
     fn bench_put_escaped(room: *mut u8, room_length: usize, src: *const u8, length: usize, class: u8) -> usize;
@@ -95,15 +95,15 @@ pub fn measure() {
     check();
     println!("escape: the texts agree");
     for percent in [0, 5, 50, 100] {
-        let inputs = |n: usize| {
+        let made = |n: usize| {
             let mut random = Random::new();
-            (0..INPUTS)
+            (0..inputs())
                 .map(|k| {
                     let text = (0..n).map(|_| if random.below(100) < percent { 0x80 + random.below(128) as u8 } else { b"abcdefghijklmnopqrstuvwxyz-._0123456789ABC"[random.below(42)] }).collect();
                     (text, k as u8 % 4)
                 })
                 .collect::<Vec<Input>>()
         };
-        compare(&format!("{percent} % escaped"), &[8, 16, 32, 64, 100, 128, 200, 255], inputs, &CALLS);
+        compare(&format!("{percent} % escaped"), &[8, 16, 32, 64, 100, 128, 200, 255], made, &CALLS);
     }
 }

@@ -1,5 +1,5 @@
 // Items one after the other: the position after so many of them, or a refusal's number.
-use crate::{agree, Call, compare, INPUTS, Random};
+use crate::{agree, Call, compare, inputs, Random};
 
 #[repr(C)]
 #[derive(Clone, Copy, PartialEq, Debug)]
@@ -180,17 +180,18 @@ pub fn measure() {
     check();
     println!("items: the answers agree");
     let sizes = [8, 16, 32, 64, 100, 128, 200, 255];
-    let kinds: [(&str, usize, u32, &[Call<Input, Answer>]); 4] = [
+    let kinds: [(&str, usize, u32, &[Call<Input, Answer>]); 5] = [
         ("texts", 0, 1, &TEXTS),
         ("texts, by kinds", 0, 1, &LABELS),
         ("texts and ports", 30, 16, &LABELS),
-        ("numbers", 100, 16, &LABELS),
+        ("16-bit numbers", 100, 16, &LABELS),
+        ("64-bit numbers", 100, 64, &LABELS),
     ];
     for (name, numbers, bits, calls) in kinds {
-        let inputs = |n: usize| {
+        let made = |n: usize| {
             let mut random = Random::new();
-            (0..INPUTS).map(|_| mixed(n, numbers, bits, &mut random)).collect::<Vec<Input>>()
+            (0..inputs()).map(|_| mixed(n, numbers, bits, &mut random)).collect::<Vec<Input>>()
         };
-        compare(name, &sizes, inputs, calls);
+        compare(name, &sizes, made, calls);
     }
 }

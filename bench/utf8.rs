@@ -1,5 +1,5 @@
 // The validity of a part of a slice as UTF-8.
-use crate::{agree, Call, compare, INPUTS, Random};
+use crate::{agree, Call, compare, inputs, Random};
 
 extern "C" {
     fn bench_utf8_valid(s: *const u8, length: usize, from: usize, n: usize) -> bool;
@@ -146,9 +146,9 @@ pub fn measure() {
     ];
     for (name, text) in texts {
         // each text after up to 7 other bytes
-        let inputs = |n: usize| {
+        let made = |n: usize| {
             let mut random = Random::new();
-            (0..INPUTS)
+            (0..inputs())
                 .map(|_| {
                     let from = random.below(8);
                     let mut s = plain(from, &mut random);
@@ -157,6 +157,6 @@ pub fn measure() {
                 })
                 .collect::<Vec<Input>>()
         };
-        compare(name, &[4, 8, 12, 16, 24, 31, 32, 48, 64, 100, 128, 200, 255], inputs, &CALLS);
+        compare(name, &[4, 8, 12, 16, 24, 31, 32, 48, 64, 100, 128, 200, 255], made, &CALLS);
     }
 }
