@@ -96,7 +96,8 @@ fn skip_ascii(s: &[u8], from: usize, end: usize) -> usize
     from
 }
 
-fn inside(b: u8, low: u8, high: u8) -> bool
+// Whether a byte is one from low to high.
+pub fn inside(b: u8, low: u8, high: u8) -> bool
     ensures { λ r. ⌜ r ≡ within low high b ⌝ }
 {
     if b < low {
