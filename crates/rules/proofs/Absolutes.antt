@@ -17,7 +17,7 @@ use Rattle.rules.specs.Encode.{encode}
 use Rattle.rules.specs.Valid.{If, Good, GoodTexts, GoodAuthority, GoodScheme, GoodOpening, Valid}
 use Rattle.rules.specs.Resolve.{fits}
 use Rattle.rules.proofs.Tools.{and-left, and-right, is-within}
-use Rattle.rules.proofs.Steps.{refused-ok, bind-ok, ok-at}
+use Rattle.rules.proofs.Steps.{refused-ok, none-some, bind-ok, ok-at}
 use Rattle.rules.proofs.Reading.{canonical, complete}
 
 -- ---- absolute references
@@ -28,9 +28,6 @@ pub record Absolute (r : Reference) (c : Cri) : Type 0 where
   pub path : elements (r .path) ≡ c .path
   pub query : r .query ≡ c .query
   pub fragment : r .fragment ≡ c .fragment
-
-none-some : {A B : Type 0} (a : A) → none ≡ some a → B
-none-some a e = let z : _≡_ {A = ℕ} 0 1 = cc in absurd (omega arith)
 
 absolute-parts : (o : Opening Bytes) (p q : Option (List Bytes)) (f : Option Bytes) (c : Cri)
     → absolute (record { opening = o; path = p; query = q; fragment = f }) ≡ some c → Absolute (record { opening = o; path = p; query = q; fragment = f }) c

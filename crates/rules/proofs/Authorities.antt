@@ -68,7 +68,7 @@ ok-portBody bs at left n sm r e =
       },
     )))
 
-ok-port : (bs : Bytes) (at left : ℕ) → Octets bs → Ok (λ r. PortAt bs at left r) (readPort bs at left)
+pub ok-port : (bs : Bytes) (at left : ℕ) → Octets bs → Ok (λ r. PortAt bs at left r) (readPort bs at left)
 unfolding readPort portItems concat
 ok-port bs at zero sm = ok! (record { spells = refl; items = refl; good = tt; inside = λ h. h })
 ok-port bs at (suc left) sm = ok-head _ _ _ _ (λ r. ok-map (ok-portBody bs at left 0 sm r (is-kind Number _ (r .kind))) (λ n p. p .1))
@@ -112,6 +112,12 @@ ok-names bs at (suc left) n sm =
     })))
     (λ f. ok-map (ok-portBody bs at left n sm r (is-kind Number _ (or-right _ _ (r .kind) f))) (λ a p.
     record { more = 0; count = omega (arith, p .0); spells = p .1 .spells; items = omega (arith, p .1 .items); most = λ h. omega (arith, p .0); good = tt; port = p .1 .good; stand = tt; inside = p .1 .inside; stay = λ q. refl })))
+
+-- the first label and those after it stand one after the other
+pub labels-run : (bs : Bytes) (at mid left : ℕ) (r : Names) → TextAt label bs at mid → NamesAt bs mid left 1 r → Items bs at (r .count)
+labels-run bs at mid left r t q =
+    let c : suc (q .more) ≡ r .count = omega (arith, q .count) in
+    subst (Items bs at) c (t .stands, subst (λ (m : ℕ). Items bs m (q .more)) (t .ends) (q .stand))
 
 -- the items of the authority, of which `left` stand after the first
 pub record InsideAt (bs : Bytes) (at left : ℕ) (a : AuthorityAt) : Type 0 where

@@ -6,6 +6,7 @@ pub mod Slots
 pub mod Authorities
 pub mod Openings
 pub mod Reading
+pub mod Standing
 pub mod Absolutes
 pub mod Utf8Bytes
 pub mod Encoding

@@ -8,12 +8,17 @@ use Prim.Native.Nat.{ℕ}
 use native.Mathlib.Omega.{arith}
 use mathlib.Core.Path.{_≡_, refl, sym, subst}
 use mathlib.Core.Bool.{Bool, true, false, not}
-use Rattle.rules.specs.Result.{Res, refused, ok, _>>=_, _>>_, need, if_then_else_}
+use mathlib.Core.Option.{Option, none, some}
+use Rattle.rules.specs.Result.{Res, refused, ok, _>>=_, _>>_, need, given, if_then_else_}
 use Rattle.rules.proofs.Tools.{never}
 
 -- a refusal is no value
 pub refused-ok : {A B : Type 0} (n k : ℕ) (a : A) → refused n k ≡ ok a → B
 refused-ok n k a e = let z : _≡_ {A = ℕ} 0 1 = cc in absurd (omega arith)
+
+-- what is unset is no value
+pub none-some : {A B : Type 0} (a : A) → none ≡ some a → B
+none-some a e = let z : _≡_ {A = ℕ} 0 1 = cc in absurd (omega arith)
 
 -- ---- one step of a walk
 
@@ -62,6 +67,11 @@ pub ok-if : {A : Type 0} {P : A → Type 0} (t : Bool) (a b : Res A) → (t ≡ 
 unfolding if_then_else_
 ok-if true a b f g = f refl
 ok-if false a b f g = g refl
+
+pub ok-given : {A : Type 0} {P : A → Type 0} (o : Option A) (n k : ℕ) → ((a : A) → o ≡ some a → P a) → Ok P (given o n k)
+unfolding given
+ok-given none n k f = no!
+ok-given (some a) n k f = ok! (f a refl)
 
 pub ok-map : {A : Type 0} {P Q : A → Type 0} {m : Res A} → Ok P m → ((a : A) → P a → Q a) → Ok Q m
 ok-map no! g = no!

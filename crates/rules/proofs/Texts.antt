@@ -4,7 +4,7 @@ use native.Mathlib.Omega.{arith}
 use mathlib.Core.Path.{_≡_, refl, sym, ap, ap₂, _∙_, subst}
 use mathlib.Core.Bool.{Bool, true}
 use mathlib.Core.List.{List, [], _∷_, _++_, append-assoc, map}
-use lib.ListN.{length, drop, length-drop, length-append}
+use lib.ListN.{length, drop, length-drop, length-append, length-map}
 use borrow.Author.Tests.{leb-true, le-leb}
 use Rattle.rules.specs.Bytes.{Bytes, Each, Octets, part, within, concat}
 use Rattle.rules.specs.Result.{Res, ok, _>>=_}
@@ -192,10 +192,14 @@ contentAt-more p q at h =
       ap (λ (x : Head). x .next + x .value) e,
     )
 
+pub length-spans : (bs : Bytes) (at n : ℕ) → length (spans bs at n) ≡ n
+unfolding spans
+length-spans bs at zero = refl
+length-spans bs at (suc n) = ap suc (length-spans bs (endAt bs at) n)
+
 pub length-contents : (bs : Bytes) (at n : ℕ) → length (contents bs at n) ≡ n
-unfolding contents spans
-length-contents bs at zero = refl
-length-contents bs at (suc n) = ap suc (length-contents bs (endAt bs at) n)
+unfolding contents
+length-contents bs at n = length-map (spans bs at n) (taken bs) ∙ length-spans bs at n
 
 pub contents-more : (bs q : Bytes) (at n : ℕ) → endAt bs at ≤ length bs → contents (bs ++ q) (endAt bs at) n ≡ contents bs (endAt bs at) n → contents (bs ++ q) at (suc n) ≡ contents bs at (suc n)
 unfolding contents spans
