@@ -1,5 +1,5 @@
 -- The steps of reading a head, as the code takes them, and what an accepted head says.
-use Prim.Native.Nat.{ℕ, _+_, _-_, _^_, _≤_, _<_}
+use Prim.Native.Nat.{ℕ, _+_, _^_, _≤_, _<_}
 use native.Mathlib.Omega.{arith}
 use native.Mathlib.Decide.{decLe}
 use native.Mathlib.Nat.{pow-le-pow-right}
@@ -13,10 +13,12 @@ use borrow.Author.Tests.{lt-ltb, le-ltb, le-leb, lt-leb, eq-eqb, ne-eqb}
 use Rattle.rules.specs.Bytes.{Bytes, Octets, part, numberFrom}
 use Rattle.rules.specs.Result.{Res, refused, ok, _>>=_, CUT, FORM, HEAD}
 use Rattle.rules.specs.Head.{Kind, Number, Negative, ByteString, Text, Array, True, Null, Other, Head, width, shortest, valueFrom, kindAt, infoAt, widthAt, valueAt, headAt, readHead, majorOf, headBytes}
+use Rattle.rules.specs.Reader.{spanAt}
 use Rattle.rules.proofs.Tools.{tests, cond-split, cond-yes, cond-no, length-part, octets-part, never}
 use Rattle.rules.proofs.Steps.{need-yes, need-no, ok-at, yes!, yes-use}
 use Rattle.rules.proofs.Heads.{Lead, lead, Fits, Stands, head-ok, small-value, length-big, Spelled, spelled, yes-head}
-use Rattle.cbor.specs.Heads.{accepted, leastOf, ifShortest, readArgument}
+use Rattle.rules.proofs.Texts.{ItemStands}
+use Rattle.cbor.specs.Heads.{accepted, spanIs, leastOf, ifShortest, readArgument}
 use Rattle.cbor.proofs.Numbers.{number-below}
 
 -- ---- the shortest head
@@ -258,6 +260,33 @@ head-fits allowed bs at {k} {v} {next} o f e =
     let s = a .stands in
     subst (Fits k) (sym (ap (λ (h : Head). h .value) (a .head)))
     (fits-at k bs at (sym (ap (λ (h : Head). h .kind) (a .head))) (λ q. head-never a (ap allowed q ∙ f)) (value-below bs at o (s .info) (s .inside)))
+
+-- ---- an item that stands at a position
+
+module _ (bs : Bytes) (at : ℕ) where
+  pub item-head : ItemStands bs at → at + 1 + widthAt bs at ≤ length bs
+  unfolding headAt
+  item-head i = omega (arith, i .inside)
+
+  pub span-small : infoAt bs at < 24 → spanIs (record { start = at + 1; length = infoAt bs at }) ≡ spanAt bs at
+  unfolding headAt
+  span-small h = λ i. record { start = start i; length = value i }
+    where
+      start : at + 1 ≡ at + 1 + widthAt bs at
+      start = omega (arith, width-small (infoAt bs at) h)
+
+      value : infoAt bs at ≡ valueAt bs at
+      value = sym (cond-yes (ltb (infoAt bs at) 24) (infoAt bs at) _ (lt-ltb (infoAt bs at) 24 h))
+
+  pub span-sized : (w v : ℕ) → 24 ≤ infoAt bs at → w ≡ widthAt bs at → v ≡ numberFrom 0 (part bs (at + 1) w)
+      → spanIs (record { start = at + 1 + w; length = v }) ≡ spanAt bs at
+  unfolding headAt
+  span-sized w v h e f = λ i. record { start = at + 1 + e i; length = value i }
+    where
+      value : v ≡ valueAt bs at
+      value =
+          f ∙ ap (λ (n : ℕ). numberFrom 0 (part bs (at + 1) n)) e
+          ∙ sym (cond-no (ltb (infoAt bs at) 24) (infoAt bs at) _ (le-ltb (infoAt bs at) 24 h))
 
 -- ---- for callers
 

@@ -6,11 +6,13 @@ use lib.Dec.{leb, ltb, eqb}
 use Rattle.rules.specs.Bytes.{Bytes, part}
 use Rattle.rules.specs.Result.{Res, refused, ok, need, _>>_, CUT, HEAD}
 use Rattle.rules.specs.Head as H
+use Rattle.rules.specs.Model as Model
 use Rattle.cbor.specs.declared.Kind.{Kind}
 use Rattle.cbor.specs.declared.Kind.the-variants as KindV
 use Rattle.cbor.specs.declared.Kinds.{Kinds}
 use Rattle.cbor.specs.declared.Item.{Item}
 use Rattle.cbor.specs.declared.Item.the-variants as ItemV
+use Rattle.cbor.specs.declared.Span.{Span}
 use Rattle.cbor.specs.declared.Argument.{Argument}
 use Rattle.cbor.specs.declared.Argument.the-variants as ArgumentV
 
@@ -49,6 +51,10 @@ itemIs at (ItemV.Array v next) = accepted H.Array v next
 itemIs at (ItemV.True next) = accepted H.True 21 next
 itemIs at (ItemV.Null next) = accepted H.Null 22 next
 itemIs at (ItemV.Refused n) = refused n at
+
+-- where content stands
+abbrev pub spanIs : Span → Model.Span
+spanIs s = record { start = s .start; length = s .length }
 
 -- the number of a head of this kind, at a position
 abbrev pub argumentIs : H.Kind → ℕ → Argument → Res H.Head

@@ -5,9 +5,11 @@ ghost use lib.ListN.{length};
 ghost use lib.IntN.{negsuc};
 ghost use Rattle.rules.specs.Bytes.{part, numberFrom};
 ghost use Rattle.rules.specs.Head.{Kind as Kind·rules, kindOf, width, shortest, readHead, majorOf, headBytes};
+ghost use Rattle.rules.specs.Reader.{spanAt};
 ghost use Rattle.rules.proofs.Heads.{Fits};
+ghost use Rattle.rules.proofs.Texts.{ItemStands};
 ghost use Rattle.put.specs.Wrote.{Wrote};
-ghost use Rattle.cbor.specs.Heads.{kindIs, allows, itemIs, accepted, argumentIs, leastOf, readArgument};
+ghost use Rattle.cbor.specs.Heads.{kindIs, allows, itemIs, spanIs, accepted, argumentIs, leastOf, readArgument};
 ghost use Rattle.cbor.specs.Schemes.{Below, schemeId, schemeNumber};
 use put::put_big_endian;
 use put::put_byte;
@@ -202,6 +204,33 @@ pub fn item_at(s: &[u8], at: usize, allowed: Kinds) -> Item
         }
     } else {
         Item::Refused(2)
+    }
+}
+
+// Where the content of an item stands.
+pub struct Span {
+    pub start: usize,
+    pub length: usize,
+}
+
+// Where the content of an item that was accepted stands.
+pub fn span_at(s: &[u8], at: usize) -> Span
+    requires { ⌜ ItemStands (now s) at ⌝ }
+    ensures { λ r. ⌜ spanIs r ≡ spanAt (now (s .entry)) at ⌝ }
+{
+    let info = s[at] % 32;
+    let from = at + 1;
+    if info < 24 {
+        return Span {
+            start: from,
+            length: info as usize,
+        };
+    }
+    let w = width_of(info);
+    let v = number_at(s, from, w);
+    Span {
+        start: from + w,
+        length: v as usize,
     }
 }
 
