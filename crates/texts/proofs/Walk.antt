@@ -1,0 +1,112 @@
+-- Steps of a walk over the bytes of a part, and over items that were accepted.
+use Prim.Native.Nat.{ℕ, zero, suc, _+_, _-_, _≤_, _<_}
+use native.Mathlib.Omega.{arith}
+use mathlib.Core.Path.{_≡_, refl, sym, ap, ap₂, _∙_, subst}
+use mathlib.Core.Bool.{Bool, true, false, _&&_}
+use mathlib.Core.List.{[], _∷_}
+use lib.ListN.{length, getD, drop, drop-of-length-le}
+use lib.Seq.{drop-cons}
+use lib.Dec.{eqb}
+use borrow.Author.Tests.{eq-eqb, ne-eqb}
+use Rattle.rules.specs.Bytes.{Bytes, part, all, same}
+use Rattle.rules.specs.Model.{Span}
+use Rattle.rules.specs.Head.{headAt}
+use Rattle.rules.specs.Reader.{spanAt, endAt, spans, contents}
+use Rattle.rules.proofs.Tools.{by-test, length-part, part-none, part-cons, part-whole, part-step, part-end}
+use Rattle.rules.proofs.Texts.{contentAt, ItemStands, Items}
+
+-- ---- a test of each byte
+
+-- the test of the whole is the test of the bytes from i on
+abbrev pub Tested : (ℕ → Bool) → Bytes → ℕ → ℕ → ℕ → Type 0
+Tested p s from n i = (from + n ≤ length s) × (all p (part s from n) ≡ all p (part s i (from + n - i)))
+
+module _ (p : ℕ → Bool) (s : Bytes) (from n : ℕ) where
+  pub tested-none : from + n ≤ length s → Tested p s from n from
+  tested-none l = (l, ap (all p) (part-whole s from n))
+
+  module _ (i : ℕ) (t : Tested p s from n i) where
+    pub tested-next : i < from + n → p (getD s i 0) ≡ true → Tested p s from n (i + 1)
+    unfolding all
+    tested-next h e = (t .0, t .1 ∙ ap (all p) (part-step s i (from + n) h (t .0)) ∙ rw e)
+
+    pub tested-no : i < from + n → p (getD s i 0) ≡ false → false ≡ all p (part s from n)
+    unfolding all
+    tested-no h e = sym (t .1 ∙ ap (all p) (part-step s i (from + n) h (t .0)) ∙ rw e)
+
+    pub tested-all : from + n ≤ i → true ≡ all p (part s from n)
+    unfolding all
+    tested-all h = sym (t .1 ∙ ap (all p) (part-end s i (from + n) h))
+
+-- ---- bytes compared with a text
+
+-- the comparison of the whole is that of the bytes from i on
+abbrev pub Compared : Bytes → ℕ → ℕ → Bytes → ℕ → Type 0
+Compared s from n t i = (from + n ≤ length s) × (n ≡ length t) × (same (part s from n) t ≡ same (part s (from + i) (n - i)) (drop i t))
+
+other-length : (xs ys : Bytes) → (length xs ≡ length ys → ⊥) → false ≡ same xs ys
+other-length [] [] h = absurd (h refl)
+other-length [] (y ∷ ys) h = refl
+other-length (x ∷ xs) [] h = refl
+other-length (x ∷ xs) (y ∷ ys) h = by-test (λ t. false ≡ (t && same xs ys)) (eqb x y) (λ e. other-length xs ys (λ e. h (ap suc e))) (λ e. refl)
+
+module _ (s : Bytes) (from n : ℕ) (t : Bytes) where
+  pub compared-other : from + n ≤ length s → (n ≡ length t → ⊥) → false ≡ same (part s from n) t
+  compared-other l h = other-length (part s from n) t (λ e. h (sym (length-part s from n l) ∙ e))
+
+  pub compared-none : from + n ≤ length s → n ≡ length t → Compared s from n t 0
+  compared-none l e =
+      let a : from ≡ from + 0 = omega arith in
+      let b : n ≡ n - 0 = omega arith in
+      (l, e, ap₂ (λ (x y : ℕ). same (part s x y) t) a b)
+
+  module _ (i : ℕ) (c : Compared s from n t i) where
+    step : i < n → same (part s (from + i) (n - i)) (drop i t) ≡ (eqb (getD s (from + i) 0) (getD t i 0) && same (part s (from + (i + 1)) (n - (i + 1))) (drop (i + 1) t))
+    step h =
+        let d : suc i ≡ i + 1 = omega arith in
+        ap₂ same (part-cons s (from + i) (n - i) (from + (i + 1)) (n - (i + 1)) (omega arith) (omega arith) (omega arith))
+        (drop-cons t i 0 (omega arith) ∙ ap (λ (k : ℕ). getD t i 0 ∷ drop k t) d)
+
+    pub compared-next : i < n → getD s (from + i) 0 ≡ getD t i 0 → Compared s from n t (i + 1)
+    compared-next h e = (c .0, c .1, c .2 ∙ step h ∙ rw (eq-eqb (getD s (from + i) 0) (getD t i 0) e))
+
+    pub compared-no : i < n → (getD s (from + i) 0 ≡ getD t i 0 → ⊥) → false ≡ same (part s from n) t
+    compared-no h e = sym (c .2 ∙ step h ∙ rw (ne-eqb (getD s (from + i) 0) (getD t i 0) e))
+
+    pub compared-all : n ≤ i → true ≡ same (part s from n) t
+    compared-all h = sym (c .2 ∙ ap₂ same (part-none s (from + i) (n - i) (omega arith)) (drop-of-length-le t {i = i} (omega arith)))
+
+-- ---- items that were accepted
+
+-- the first of the items that are left, its content n bytes from `start` on, and then the others
+pub record First (bs : Bytes) (here left start n : ℕ) : Type 0 where
+  pub after : here < start
+  pub inside : start + n ≤ length bs
+  pub content : contents bs here left ≡ part bs start n ∷ contents bs (start + n) (left - 1)
+  pub others : Items bs (start + n) (left - 1)
+
+pub first-stands : (bs : Bytes) (here left : ℕ) → 0 < left → Items bs here left → ItemStands bs here
+first-stands bs here zero h i = absurd (omega arith)
+first-stands bs here (suc left) h i = i .0
+
+pub first : (bs : Bytes) (here left start n : ℕ) → 0 < left → Items bs here left → record { start = start; length = n } ≡ spanAt bs here → First bs here left start n
+unfolding headAt contents spans
+first bs here zero start n h i e = absurd (omega arith)
+first bs here (suc left) start n h i e = subst (λ (x : Span). First bs here (suc left) (x .start) (x .length)) (sym e) whole
+  where
+    less : left ≡ suc left - 1
+    less = omega arith
+
+    whole : First bs here (suc left) (headAt bs here .next) (headAt bs here .value)
+    whole =
+        record {
+          after = omega arith;
+          inside = i .0 .inside;
+          content = ap (λ (k : ℕ). contentAt bs here ∷ contents bs (endAt bs here) k) less;
+          others = subst (λ (k : ℕ). Items bs (endAt bs here) k) less (i .1);
+        }
+
+pub none-left : (bs : Bytes) (here left : ℕ) → left ≤ 0 → contents bs here left ≡ []
+unfolding contents spans
+none-left bs here zero h = refl
+none-left bs here (suc left) h = absurd (omega arith)

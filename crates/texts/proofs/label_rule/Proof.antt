@@ -1,0 +1,63 @@
+-- `texts::label_rule` meets its contract. The loop's invariant: the test of what is left is the test of the whole.
+use Prim.Native.Nat.{_+_, _-_}
+use mathlib.Core.Path.{sym, _∙_}
+use Rattle.rules.specs.Rules.{labelByte, labelRule}
+use Rattle.texts.proofs.Walk.{Tested, tested-none, tested-next, tested-no, tested-all}
+use borrow.Author.Needs.{needs}
+use Rattle.texts.proofs.label_rule.Statement.{statement}
+use Rattle.texts.proofs.label_rule.Tie as tie
+
+abbrev Inv-loop : tie.InvT-loop
+Inv-loop s from n end i₀ i = Tested labelByte s from n i
+
+abbrev μ-loop : tie.MeasureT-loop
+μ-loop s from n end i₀ i = from + n - i
+
+add-end : tie.Need-add-end Inv-loop μ-loop
+add-end c = search needs
+
+loop-holds : tie.Need-loop-holds Inv-loop μ-loop
+loop-holds c = tested-none _ _ _ _ (c .before .pre)
+
+shared-slice-read-label-byte : tie.Need-shared-slice-read-label-byte Inv-loop μ-loop
+shared-slice-read-label-byte c = search needs
+
+label-byte-requires : tie.Need-label-byte-requires Inv-loop μ-loop
+label-byte-requires c κs = search needs
+
+add-i : tie.Need-add-i Inv-loop μ-loop
+add-i c = search needs
+
+loop-less : tie.Need-loop-less Inv-loop μ-loop
+loop-less c = search needs
+
+loop-again : tie.Need-loop-again Inv-loop μ-loop
+loop-again c =
+    let l = c .before .before .before .before .loop in
+    tested-next _ _ _ _ (l .i) (l .inv) (c .before .before .before .loop-test .taken) (sym (c .before .label-byte .ensures) ∙ c .if1 .taken)
+
+returns : tie.Need-returns Inv-loop μ-loop
+unfolding labelRule
+returns c =
+    let l = c .before .before .before .before .loop in
+    tested-no _ _ _ _ (l .i) (l .inv) (c .before .before .before .loop-test .taken) (sym (c .before .label-byte .ensures) ∙ c .if1 .left)
+
+returns-2 : tie.Need-returns-2 Inv-loop μ-loop
+unfolding labelRule
+returns-2 c = let l = c .before .loop in tested-all _ _ _ _ (l .i) (l .inv) (c .loop-test .left)
+
+pub label-rule-spec : {M : Type 1} → statement M
+label-rule-spec =
+    tie.close
+    (tie.spec
+    Inv-loop
+    μ-loop
+    add-end
+    loop-holds
+    shared-slice-read-label-byte
+    label-byte-requires
+    add-i
+    loop-less
+    loop-again
+    returns
+    returns-2)
