@@ -1,0 +1,26 @@
+-- `reader::number_body` meets its contract.
+use mathlib.Core.Path.{sym, _∙_}
+use borrow.Author.Tests.{not-true, not-false}
+use Rattle.rules.specs.Reader.{openingBody}
+use Rattle.rules.proofs.Steps.{need-yes, need-no}
+use borrow.Author.Needs.{needs}
+use Rattle.reader.proofs.number_body.Statement.{statement}
+use Rattle.reader.proofs.number_body.Tie as tie
+
+known-scheme-requires : tie.Need-known-scheme-requires
+known-scheme-requires c κs = search needs
+
+returns : tie.Need-returns
+unfolding openingBody
+returns c = need-no _ _ _ _ (sym (c .before .known-scheme .ensures) ∙ not-true _ (c .if1 .taken))
+
+after-scheme-requires : tie.Need-after-scheme-requires
+after-scheme-requires c κs = search needs
+
+returns-2 : tie.Need-returns-2
+unfolding openingBody
+returns-2 c = c .after-scheme .ensures ∙ need-yes _ _ _ _ (sym (c .before .before .known-scheme .ensures) ∙ not-false _ (c .before .if1 .left))
+
+pub number-body-spec : {M : Type 1} → statement M
+number-body-spec =
+    tie.close (tie.spec known-scheme-requires returns after-scheme-requires returns-2)

@@ -1,0 +1,106 @@
+-- `reader::rest_at` meets its contract.
+use mathlib.Core.Path.{sym, ap, _∙_}
+use Rattle.rules.specs.Reader.{readArray, readFragment}
+use Rattle.rules.specs.Rules.{parameter}
+use Rattle.rules.proofs.Steps.{bind-ok, bind-refused}
+use Rattle.reader.specs.Code.{slotIs, readRest}
+use borrow.Author.Needs.{needs}
+use Rattle.reader.proofs.rest_at.Statement.{statement}
+use Rattle.reader.proofs.rest_at.Tie as tie
+
+array-at-requires : tie.Need-array-at-requires
+array-at-requires c κs = search needs
+
+enum-known-k : tie.Need-enum-known-k
+enum-known-k c = search needs
+
+enum-known-path : tie.Need-enum-known-path
+enum-known-path c = search needs
+
+less-requires : tie.Need-less-requires
+less-requires c κs = search needs
+
+array-at-requires-2 : tie.Need-array-at-requires-2
+array-at-requires-2 c κs = search needs
+
+enum-known-k-2 : tie.Need-enum-known-k-2
+enum-known-k-2 c = search needs
+
+enum-known-query : tie.Need-enum-known-query
+enum-known-query c = search needs
+
+less-requires-2 : tie.Need-less-requires-2
+less-requires-2 c κs = search needs
+
+fragment-at-requires : tie.Need-fragment-at-requires
+fragment-at-requires c κs = search needs
+
+enum-known-k-3 : tie.Need-enum-known-k-3
+enum-known-k-3 c = search needs
+
+enum-known-fragment : tie.Need-enum-known-fragment
+enum-known-fragment c = search needs
+
+finish-requires : tie.Need-finish-requires
+finish-requires c κs = search needs
+
+returns : tie.Need-returns
+unfolding readRest
+returns c =
+    let p = c .before .before .before in
+    bind-refused _ _ _ _ (ap slotIs (sym (c .before .k .given .1)) ∙ p .array-at .ensures)
+
+returns-2 : tie.Need-returns-2
+unfolding readRest
+returns-2 c =
+    let q = c .before .before .before in
+    let l = q .before in
+    let p = l .before .before .before .before in
+    bind-refused _ _ _ _ (ap slotIs (sym (c .before .k2 .given .1)) ∙ q .array-at2 .ensures ∙ ap (readArray parameter 1 16 _ _) (l .less .ensures))
+    ∙ bind-ok _ _ _ (ap slotIs (sym (l .before .before .path .given .1)) ∙ p .array-at .ensures)
+
+returns-3 : tie.Need-returns-3
+unfolding readRest
+returns-3 c =
+    let f = c .before .before .before in
+    let m = f .before in
+    let q = m .before .before .before .before in
+    let l = q .before in
+    let p = l .before .before .before .before in
+    bind-refused _ _ _ _ (ap slotIs (sym (c .before .k3 .given .1)) ∙ f .fragment-at .ensures ∙ ap (readFragment _ _) (m .less2 .ensures))
+    ∙ bind-ok _ _ _ (ap slotIs (sym (m .before .before .query .given .1)) ∙ q .array-at2 .ensures ∙ ap (readArray parameter 1 16 _ _) (l .less .ensures))
+    ∙ bind-ok _ _ _ (ap slotIs (sym (l .before .before .path .given .1)) ∙ p .array-at .ensures)
+
+returns-4 : tie.Need-returns-4
+unfolding readRest
+returns-4 c =
+    let f = c .before .before .before .before in
+    let m = f .before in
+    let q = m .before .before .before .before in
+    let l = q .before in
+    let p = l .before .before .before .before in
+    c .finish .ensures
+    ∙ bind-ok _ _ _ (ap slotIs (sym (c .before .before .fragment .given .1)) ∙ f .fragment-at .ensures ∙ ap (readFragment _ _) (m .less2 .ensures))
+    ∙ bind-ok _ _ _ (ap slotIs (sym (m .before .before .query .given .1)) ∙ q .array-at2 .ensures ∙ ap (readArray parameter 1 16 _ _) (l .less .ensures))
+    ∙ bind-ok _ _ _ (ap slotIs (sym (l .before .before .path .given .1)) ∙ p .array-at .ensures)
+
+pub rest-at-spec : {M : Type 1} → statement M
+rest-at-spec =
+    tie.close
+    (tie.spec
+    array-at-requires
+    enum-known-k
+    enum-known-path
+    less-requires
+    array-at-requires-2
+    enum-known-k-2
+    enum-known-query
+    less-requires-2
+    fragment-at-requires
+    enum-known-k-3
+    enum-known-fragment
+    finish-requires
+    returns
+    returns-2
+    returns-3
+    returns-4)
