@@ -1,0 +1,57 @@
+-- `components::read` meets its contract: what was found stands inside, and is laid out.
+use native.Mathlib.Omega.{arith}
+use mathlib.Core.Path.{sym, ap, _∙_}
+use denote.Ref.{now}
+use Rattle.rules.proofs.Standing.{stands}
+use Rattle.rules.proofs.Steps.{ok-at}
+use Rattle.rules.proofs.Tools.{octets-of}
+use Rattle.rules.specs.Model.{limits}
+use Rattle.reader.specs.Code.{answerIs}
+use Rattle.components.specs.Layout.{readingLaid}
+use Rattle.components.proofs.Answers.{call-accepted, call-refused}
+use borrow.Author.Needs.{needs}
+use Rattle.components.proofs.read.Statement.{statement}
+use Rattle.components.proofs.read.Tie as tie
+
+read-requires : tie.Need-read-requires
+read-requires c κs = search needs
+
+enum-known-found : tie.Need-enum-known-found
+enum-known-found c = search needs
+
+components-of-requires : tie.Need-components-of-requires
+components-of-requires c κs =
+    let m = c .before .before .before in
+    let s = now (m .before .before .args .s) in
+    ok-at (stands limits s (octets-of s (λ i. omega (arith, m .before .shared-slice-known .given i)))) (sym (m .read .ensures) ∙ ap answerIs (c .before .found .given .1))
+
+enum-known-n : tie.Need-enum-known-n
+enum-known-n c = search needs
+
+no-components-requires : tie.Need-no-components-requires
+no-components-requires c κs = search needs
+
+returns : tie.Need-returns
+returns c =
+    let m = c .before .before .before .before in
+    (λ i. record { number = 0; components = c .components-of .ensures i })
+    ∙ ap readingLaid (call-accepted limits (now (m .before .before .args .s)) _ (sym (m .read .ensures) ∙ ap answerIs (c .before .before .found .given .1)))
+
+returns-2 : tie.Need-returns-2
+returns-2 c =
+    let m = c .before .before .before .before in
+    let n = c .before .before .n .given .0 .0 in
+    (λ i. record { number = n; components = c .no-components .ensures i })
+    ∙ ap readingLaid (call-refused limits (now (m .before .before .args .s)) n _ (sym (m .read .ensures) ∙ ap answerIs (c .before .before .n .given .1)))
+
+pub read-spec : {M : Type 1} → statement M
+read-spec =
+    tie.close
+    (tie.spec
+    read-requires
+    enum-known-found
+    components-of-requires
+    enum-known-n
+    no-components-requires
+    returns
+    returns-2)
