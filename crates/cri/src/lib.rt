@@ -1,0 +1,51 @@
+// The library's calls. Each takes any bytes, and answers for all of them what its `ensures` says; the definitions named there are in
+// crates/rules/specs, how components are laid out in crates/components/specs, what a part of a slice is in crates/views/specs.
+//
+// The numbers of refusals (docs/RULES.md, 3.2), which a call answers beside its result:
+//    0  done: nothing is refused
+//    1  the bytes end inside the array, or there are none
+//    2  an item of a kind, or a count of items, that is not allowed at its place
+//    3  a head that is indefinite, reserved or not the shortest
+//    4  a number, length or count outside its range
+//    5  a text that is not UTF-8
+//    6  an unknown scheme number, or a broken rule of a scheme, a label or a segment
+//    7  bytes after the array
+//   18  a path segment that is not there
+ghost use mathlib.Core.Path.{_≡_};
+ghost use Rattle.rules.specs.Model.{limits};
+ghost use Rattle.rules.specs.Writing.{readCall};
+ghost use Rattle.rules.specs.Views.{segmentView, segmentShown, numberOf};
+ghost use Rattle.components.specs.Layout.{readingLaid};
+ghost use Rattle.views.specs.Parts.{PartOf};
+pub use cbor::Span;
+pub use components::Authority;
+pub use components::Components;
+pub use components::Fragment;
+pub use components::Opening;
+pub use components::Reading;
+pub use components::Scheme;
+pub use components::Texts;
+pub use reader::Port;
+
+// Reads a CRI reference: 0 and its components; or a number from 1 to 7, and every component unset.
+// Texts and addresses are given by where they stand in s.
+pub fn read(s: &[u8]) -> Reading
+    ensures { λ r. ⌜ r ≡ readingLaid (readCall limits (now (s .entry))) ⌝ }
+{
+    components::read(s)
+}
+
+// The n-th path segment of a reference, from 0: the part of s that holds its bytes. Where `segment_number` is not 0, the empty
+// part at the start of s.
+pub fn segment(s: &[u8], n: usize) -> &[u8]
+    ensures { λ r. ⌜ PartOf (s .entry) r (segmentShown (segmentView limits (now (s .entry)) n)) ⌝ }
+{
+    views::segment(s, n)
+}
+
+// The number of that call: 0 where the segment is there; 1 to 7 where s is refused; 18 where it has no such segment.
+pub fn segment_number(s: &[u8], n: usize) -> u8
+    ensures { λ r. ⌜ r ≡ numberOf (segmentView limits (now (s .entry)) n) ⌝ }
+{
+    views::segment_number(s, n)
+}
