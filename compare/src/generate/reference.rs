@@ -1,0 +1,488 @@
+//! Makes references: mostly valid ones, with sizes at and around every limit, and with a fault where a slip is allowed.
+
+use super::item::{Encoded, Item};
+use super::random::Random;
+
+/// A reference, and how many segments its path has.
+pub struct Made {
+    pub encoded: Encoded,
+    pub segments: usize,
+}
+
+/// A reference with at most `slips` faults, each at a random place. Without slips it is refused only where its labels together are too
+/// long or look like an IPv4 address, or where it is longer than an input may be; that is seldom.
+pub fn reference(random: &mut Random, slips: u64) -> Made {
+    let room = match random.below(100) {
+        0..45 => 40,
+        45..97 => 900,
+        _ => 4000,
+    };
+    let mut maker = Maker {
+        random,
+        slips,
+        room,
+    };
+    maker.reference()
+}
+
+/// A reference of 1,022 to 1,026 bytes, valid but for its length.
+pub fn around_longest(random: &mut Random) -> Made {
+    let length = random.pick(&[1022, 1023, 1023, 1024, 1024, 1025, 1025, 1026]);
+    let mut maker = Maker {
+        random,
+        slips: 0,
+        room: usize::MAX,
+    };
+    maker.reference_of(length)
+}
+
+/// Lengths at which a head grows or a limit lies.
+const LENGTHS: [usize; 16] = [
+    0, 1, 2, 5, 11, 22, 23, 24, 25, 62, 63, 64, 100, 200, 254, 255,
+];
+
+/// Texts that are no IPv4 part, though they look like one.
+const NEAR_DECIMALS: [&str; 13] = [
+    "256", "260", "300", "999", "1000", "00", "01", "001", "1a", "-1", "+1", "0x1", "2\u{0665}",
+];
+
+const DECIMALS: [&str; 12] = [
+    "0", "1", "9", "10", "19", "99", "100", "199", "200", "249", "250", "255",
+];
+
+const KNOWN_SCHEMES: [u64; 6] = [0, 1, 6, 7, 8, 9];
+
+const UNKNOWN_SCHEMES: [u64; 15] = [
+    2,
+    3,
+    4,
+    5,
+    10,
+    11,
+    23,
+    24,
+    255,
+    256,
+    257,
+    65535,
+    1 << 32,
+    1 << 63,
+    u64::MAX,
+];
+
+const SCHEME_TEXTS: [&str; 18] = [
+    "http", "https", "urn", "a", "z9", "coa", "coapt", "coap+", "coap-tcp", "coapss", "coaps+tc",
+    "coaps+tcpp", "coap+wss", "coap+udp", "a.b-c+d", "aaaaaaaaaaaaaaa", "abcdefghijklmnop",
+    "coap.ws",
+];
+
+const BAD_SCHEME_TEXTS: [&str; 20] = [
+    "coap", "coaps", "coap+tcp", "coaps+tcp", "coap+ws", "coaps+ws", "", "abcdefghijklmnopq",
+    "Http", "httP", "0a", "+a", ".a", "-a", "a_", "a:", "a/", "a`", "a{", "h\u{e9}",
+];
+
+/// UTF-8 of every length, at the ends of its ranges.
+const CHARACTERS: [&str; 14] = [
+    "\u{80}", "\u{e9}", "\u{7ff}", "\u{800}", "\u{fff}", "\u{1000}", "\u{20ac}", "\u{d7ff}",
+    "\u{e000}", "\u{ffff}", "\u{10000}", "\u{3ffff}", "\u{40000}", "\u{10ffff}",
+];
+
+/// Not UTF-8, whatever follows in a text of plain characters.
+const BROKEN: [&[u8]; 26] = [
+    b"\x80", b"\xBF", b"\xC0\x80", b"\xC1\xBF", b"\xC2", b"\xC2\x7F", b"\xDF\xC0", b"\xE0\x80\x80",
+    b"\xE0\x9F\xBF", b"\xE0\xA0", b"\xE1\x80", b"\xE1\x7F\x80", b"\xED\xA0\x80", b"\xED\xBF\xBF",
+    b"\xEE\x80\x7F", b"\xEF\xBF\xC0", b"\xF0\x80\x80\x80", b"\xF0\x8F\xBF\xBF", b"\xF0\x90\x80",
+    b"\xF1\x80\x80", b"\xF3\xBF\xBF\xC0", b"\xF4\x90\x80\x80", b"\xF4\xBF\xBF\xBF",
+    b"\xF5\x80\x80\x80", b"\xFE", b"\xFF",
+];
+
+struct Maker<'r> {
+    random: &'r mut Random,
+    /// How many faults may still be made.
+    slips: u64,
+    /// About how many bytes of text may still be made.
+    room: usize,
+}
+
+impl Maker<'_> {
+    /// Whether to make a fault here.
+    fn slip(&mut self) -> bool {
+        let slip = self.slips > 0 && self.random.chance(10);
+        self.slips -= u64::from(slip);
+        slip
+    }
+
+    fn reference(&mut self) -> Made {
+        let mut items = self.opening();
+        let least = items.len();
+        let path = self.path();
+        let segments = match &path {
+            Item::Array(segments) => segments.len(),
+            _ => 0,
+        };
+        items.push(path);
+        items.push(self.query());
+        items.push(self.fragment());
+        self.leave_off(&mut items, least);
+        if self.slip() {
+            let place = self.random.index(items.len() + 1);
+            let item = self.stranger();
+            items.insert(place, item);
+        }
+        Made {
+            encoded: Item::Array(items).encoded(),
+            segments,
+        }
+    }
+
+    /// Leaves off the nulls at the end and a lone 0, but for a slip.
+    fn leave_off(&mut self, items: &mut Vec<Item>, least: usize) {
+        while items.len() > least && matches!(items.last(), Some(Item::Null)) && !self.slip() {
+            items.pop();
+        }
+        if matches!(items[..], [Item::Number(0)]) && !self.slip() {
+            items.pop();
+        }
+    }
+
+    /// A reference whose encoding has `length` bytes, made long by its path.
+    fn reference_of(&mut self, length: usize) -> Made {
+        self.room = 100;
+        let mut items = self.opening();
+        let after = match self.random.below(3) {
+            0 => vec![],
+            1 => vec![Item::Array(vec![Item::Text(vec![b'q'; 3])])],
+            _ => vec![Item::Null, Item::Text(vec![b'f'; 9])],
+        };
+        let others = items
+            .iter()
+            .chain(&after)
+            .map(|item| item.encoded().bytes.len());
+        // Less the heads of the outer array and of the path.
+        let left = length - 2 - others.sum::<usize>();
+        let path: Vec<Item> = self.filling(left);
+        let segments = path.len();
+        items.push(Item::Array(path));
+        items.extend(after);
+        Made {
+            encoded: Item::Array(items).encoded(),
+            segments,
+        }
+    }
+
+    /// Fewer than 24 texts whose encodings have `left` bytes together.
+    fn filling(&mut self, mut left: usize) -> Vec<Item> {
+        let mut texts = Vec::new();
+        while left > 0 {
+            let size = match left {
+                // No text has an encoding of 25 bytes.
+                25 => 24,
+                0..=257 => left,
+                _ => 63 + self.random.index(195),
+            };
+            let length = if size <= 24 { size - 1 } else { size - 2 };
+            let text = self.text_of(length);
+            texts.push(Item::Text(without_dots(text)));
+            left -= size;
+        }
+        texts
+    }
+
+    fn opening(&mut self) -> Vec<Item> {
+        if self.slip() {
+            return vec![self.stranger()];
+        }
+        match self.random.below(10) {
+            0..2 => vec![Item::True],
+            2..5 => vec![self.discard()],
+            _ => vec![self.scheme(), self.authority()],
+        }
+    }
+
+    fn discard(&mut self) -> Item {
+        let over = self.slip();
+        Item::Number(match over {
+            true => self.random.pick(&[128, 129, 255, 256, 65536, u64::MAX]),
+            false => self
+                .random
+                .pick(&[0, 0, 0, 1, 2, 22, 23, 24, 25, 63, 126, 127]),
+        })
+    }
+
+    fn scheme(&mut self) -> Item {
+        let slip = self.slip();
+        match (self.random.below(3), slip) {
+            (0, false) => Item::Null,
+            (0 | 1, true) => Item::Negative(self.random.pick(&UNKNOWN_SCHEMES)),
+            (1, false) => Item::Negative(self.random.pick(&KNOWN_SCHEMES)),
+            (_, false) => Item::Text(self.random.pick(&SCHEME_TEXTS).into()),
+            (_, true) if self.random.chance(20) => Item::Text(self.broken_text(5)),
+            (_, true) => Item::Text(self.random.pick(&BAD_SCHEME_TEXTS).into()),
+        }
+    }
+
+    fn authority(&mut self) -> Item {
+        if self.slip() {
+            return self.stranger();
+        }
+        let mut items = match self.random.below(10) {
+            0..2 => vec![self.address(4)],
+            2..4 => vec![self.address(16)],
+            4..7 => self.labels(),
+            7 => self.decimals(),
+            _ => self.long_name(),
+        };
+        if self.random.chance(40) {
+            items.push(self.port());
+        }
+        if self.slip() {
+            let place = self.random.index(items.len() + 1);
+            let item = self.stranger();
+            items.insert(place, item);
+        }
+        Item::Array(items)
+    }
+
+    fn address(&mut self, length: usize) -> Item {
+        let length = match self.slip() {
+            true => self.random.pick(&[0, 1, 3, 5, 8, 15, 17, 23, 24, 32, 256]),
+            false => length,
+        };
+        Item::Bytes(self.random.bytes(length))
+    }
+
+    fn port(&mut self) -> Item {
+        let over = self.slip();
+        Item::Number(match over {
+            true => self
+                .random
+                .pick(&[65536, 65537, 131_071, 0xFFFF_FFFF, 1 << 32, u64::MAX]),
+            false => self
+                .random
+                .pick(&[0, 1, 23, 24, 80, 255, 256, 443, 5683, 5684, 65534, 65535]),
+        })
+    }
+
+    fn labels(&mut self) -> Vec<Item> {
+        let count = match self.slip() {
+            true => self.random.pick(&[0, 9, 9, 10]),
+            false => self.random.pick(&[1, 1, 2, 3, 4, 5, 7, 8, 8]),
+        };
+        let short = count > 3 || self.random.chance(50);
+        (0..count).map(|_| self.label(short)).collect()
+    }
+
+    fn label(&mut self, short: bool) -> Item {
+        let length = match self.slip() {
+            true => self.random.pick(&[0, 64, 65, 255, 256]),
+            false => self.length(short).clamp(1, 63),
+        };
+        let mut label = lower_case(self.text_of(length));
+        if self.slip() && length > 0 {
+            let place = self.random.index(length);
+            label[place] = self.random.pick(b".AZMB");
+        }
+        self.text_item(label)
+    }
+
+    /// Labels that are, or nearly are, the parts of an IPv4 address.
+    fn decimals(&mut self) -> Vec<Item> {
+        let count = self.random.pick(&[3, 4, 4, 4, 4, 5]);
+        let near = self.random.chance(70).then(|| self.random.index(count));
+        (0..count)
+            .map(|i| match near == Some(i) {
+                true => self.random.pick(&NEAR_DECIMALS),
+                false => self.random.pick(&DECIMALS),
+            })
+            .map(|label| Item::Text(label.into()))
+            .collect()
+    }
+
+    /// Labels of 253 to 257 bytes together, their dots counted.
+    fn long_name(&mut self) -> Vec<Item> {
+        let total = self.random.pick(&[253, 254, 254, 255, 255, 255, 256, 257]);
+        let count = 5 + self.random.index(4);
+        let mut lengths = vec![1; count];
+        let mut left = total - (2 * count - 1);
+        while left > 0 {
+            let label = self.random.index(count);
+            let more = (63 - lengths[label])
+                .min(left)
+                .min(1 + self.random.index(63));
+            lengths[label] += more;
+            left -= more;
+        }
+        lengths
+            .into_iter()
+            .map(|length| Item::Text(lower_case(self.text_of(length))))
+            .collect()
+    }
+
+    fn path(&mut self) -> Item {
+        if self.random.chance(25) {
+            return Item::Null;
+        }
+        let count = match self.slip() {
+            true => self.random.pick(&[33, 33, 34, 64]),
+            false => self
+                .random
+                .pick(&[0, 0, 1, 1, 2, 3, 5, 15, 22, 23, 24, 31, 31, 32, 32]),
+        };
+        let texts = self.texts(count, Self::segment);
+        self.array_item(texts)
+    }
+
+    fn segment(&mut self, short: bool) -> Item {
+        if self.slip() {
+            return Item::Text(self.random.pick(&[".", ".."]).into());
+        }
+        if self.random.chance(5) {
+            return Item::Text(
+                self.random
+                    .pick(&["...", ".a", "a.", "..a", "\u{ff0e}", "%2e"])
+                    .into(),
+            );
+        }
+        let segment = without_dots(self.content(short));
+        self.text_item(segment)
+    }
+
+    fn query(&mut self) -> Item {
+        if self.random.chance(50) {
+            return Item::Null;
+        }
+        let count = match self.slip() {
+            true => self.random.pick(&[0, 17, 17, 18, 32]),
+            false => self.random.pick(&[1, 1, 2, 3, 14, 15, 15, 16, 16]),
+        };
+        let texts = self.texts(count, Self::parameter);
+        self.array_item(texts)
+    }
+
+    fn parameter(&mut self, short: bool) -> Item {
+        let parameter = self.content(short);
+        self.text_item(parameter)
+    }
+
+    fn fragment(&mut self) -> Item {
+        if self.random.chance(60) {
+            return Item::Null;
+        }
+        let fragment = self.content(false);
+        self.text_item(fragment)
+    }
+
+    /// So many texts; short ones where they are many.
+    fn texts(&mut self, count: usize, text: fn(&mut Self, bool) -> Item) -> Vec<Item> {
+        let short = count > 5 || self.random.chance(50);
+        (0..count).map(|_| text(self, short)).collect()
+    }
+
+    /// A segment, parameter or fragment.
+    fn content(&mut self, short: bool) -> Vec<u8> {
+        let length = match self.slip() {
+            true => self.random.pick(&[256, 256, 257, 511]),
+            false => self.length(short),
+        };
+        self.text_of(length)
+    }
+
+    fn length(&mut self, short: bool) -> usize {
+        let length = match short {
+            true => self.random.pick(&[0, 0, 1, 1, 1, 2, 3, 8, 23, 24]),
+            false => self.random.pick(&LENGTHS),
+        };
+        let length = length.min(self.room);
+        self.room -= length;
+        length
+    }
+
+    /// The text, or where there is a slip another item or a text that is not UTF-8.
+    fn text_item(&mut self, text: Vec<u8>) -> Item {
+        match self.slip() {
+            true if self.random.chance(60) => Item::Text(self.broken_text(text.len())),
+            true => self.stranger(),
+            false => Item::Text(text),
+        }
+    }
+
+    fn array_item(&mut self, items: Vec<Item>) -> Item {
+        match self.slip() {
+            true => self.stranger(),
+            false => Item::Array(items),
+        }
+    }
+
+    /// UTF-8 of `length` bytes.
+    fn text_of(&mut self, length: usize) -> Vec<u8> {
+        let ascii = self.random.pick(&[100, 100, 90, 50, 0]);
+        let mut text = Vec::with_capacity(length);
+        while text.len() < length {
+            let character = self.random.pick(&CHARACTERS).as_bytes();
+            let fits = text.len() + character.len() <= length;
+            match fits && !self.random.chance(ascii) {
+                true => text.extend(character),
+                false => text.push(self.ascii()),
+            }
+        }
+        text
+    }
+
+    fn ascii(&mut self) -> u8 {
+        match self.random.chance(80) {
+            true => self.random.pick(b"abcxyz0189-~"),
+            false => self.random.byte() & 0x7F,
+        }
+    }
+
+    /// A text of about `length` bytes that is not UTF-8.
+    fn broken_text(&mut self, length: usize) -> Vec<u8> {
+        let broken = self.random.pick(&BROKEN);
+        let left = length.saturating_sub(broken.len());
+        let before = match self.random.below(3) {
+            0 => 0,
+            1 => left,
+            _ => self.random.index(left + 1),
+        };
+        let mut text = self.text_of(before);
+        text.extend(broken);
+        text.resize(before + broken.len() + left - before, b'a');
+        text
+    }
+
+    /// An item of any kind.
+    fn stranger(&mut self) -> Item {
+        match self.random.below(9) {
+            0 => Item::Number(self.random.number()),
+            1 => Item::Negative(self.random.number()),
+            2 => Item::Bytes(self.random.bytes(4)),
+            3 => Item::Text(vec![]),
+            4 => Item::Text(vec![b'a']),
+            5 => Item::Array(vec![]),
+            6 => Item::Array(vec![Item::Text(vec![b'a'])]),
+            7 => Item::True,
+            _ => Item::Null,
+        }
+    }
+}
+
+/// A text that may be a label: lower-case and without dots.
+fn lower_case(text: Vec<u8>) -> Vec<u8> {
+    text.into_iter()
+        .map(|b| {
+            if b == b'.' {
+                b'-'
+            } else {
+                b.to_ascii_lowercase()
+            }
+        })
+        .collect()
+}
+
+/// A text that may be a segment: neither "." nor "..".
+fn without_dots(text: Vec<u8>) -> Vec<u8> {
+    match &text[..] {
+        b"." | b".." => vec![b'-'; text.len()],
+        _ => text,
+    }
+}

@@ -1,0 +1,702 @@
+//! The reader: the table of the rules, the readings of docs/DECISIONS.md, and every size at it, one below and one over.
+
+use compare::lines;
+use compare::reader::read;
+
+/// The bytes of hexadecimal words.
+fn bytes(hex: &str) -> Vec<u8> {
+    let digits: Vec<u32> = hex.chars().filter_map(|c| c.to_digit(16)).collect();
+    digits
+        .chunks(2)
+        .map(|pair| ((pair[0] << 4) | pair[1]) as u8)
+        .collect()
+}
+
+/// A number of an accepted input is 0 and has no place.
+fn outcome(input: &[u8]) -> (u8, Option<usize>) {
+    match read(input) {
+        Ok(_) => (0, None),
+        Err(refusal) => (refusal.number(), Some(refusal.place)),
+    }
+}
+
+#[track_caller]
+fn refused(hex: &str, number: u8, place: usize) {
+    assert_eq!(outcome(&bytes(hex)), (number, Some(place)), "{hex}");
+}
+
+#[track_caller]
+fn accepted(hex: &str, components: &str) {
+    let request = format!("read {}", lines::hex(&bytes(hex)));
+    assert_eq!(
+        lines::answer(request.as_bytes()),
+        format!("0 {components}"),
+        "{hex}"
+    );
+}
+
+/// Encodings, written apart from the generator's.
+mod encode {
+    pub fn head(major: u8, argument: usize) -> Vec<u8> {
+        match argument {
+            0..=23 => vec![(major << 5) | argument as u8],
+            24..=255 => vec![(major << 5) | 24, argument as u8],
+            256..=65535 => vec![(major << 5) | 25, (argument >> 8) as u8, argument as u8],
+            _ => panic!("no test needs {argument}"),
+        }
+    }
+
+    pub fn text(length: usize) -> Vec<u8> {
+        [head(3, length), vec![b'a'; length]].concat()
+    }
+
+    pub fn string(length: usize) -> Vec<u8> {
+        [head(2, length), vec![7; length]].concat()
+    }
+
+    pub fn array(items: &[Vec<u8>]) -> Vec<u8> {
+        [head(4, items.len()), items.concat()].concat()
+    }
+
+    pub fn texts(lengths: &[usize]) -> Vec<u8> {
+        let items: Vec<_> = lengths.iter().map(|&length| text(length)).collect();
+        array(&items)
+    }
+}
+
+use encode::{array, string, text, texts};
+
+const NULL: &[u8] = &[0xF6];
+const TRUE: &[u8] = &[0xF5];
+const COAP: &[u8] = &[0x20];
+
+/// The outcome for an array of these items.
+fn outcome_of(items: &[&[u8]]) -> (u8, Option<usize>) {
+    let items: Vec<_> = items.iter().map(|item| item.to_vec()).collect();
+    outcome(&array(&items))
+}
+
+const ACCEPTED: (u8, Option<usize>) = (0, None);
+
+fn at(number: u8, place: usize) -> (u8, Option<usize>) {
+    (number, Some(place))
+}
+
+#[test]
+fn table() {
+    accepted(
+        "83 20 82 44 C6336401 19F0B0 82 6B 2E77656C6C2D6B6E6F776E 64 636F7265",
+        "scheme number 0 authority address c6336401 port 61616 \
+         path segment 2e77656c6c2d6b6e6f776e segment 636f7265",
+    );
+    refused("", 1, 0);
+    accepted("80", "discard 0");
+    refused("81 00", 2, 1);
+    accepted("82 00 80", "discard 0 path");
+    accepted("82 00 81 61 61", "discard 0 path segment 61");
+    accepted("82 01 81 61 61", "discard 1 path segment 61");
+    accepted("81 18 7F", "discard 127");
+    refused("81 18 80", 4, 1);
+    refused("81 18 17", 3, 1);
+    accepted("82 02 81 60", "discard 2 path segment -");
+    accepted("83 00 F6 81 60", "discard 0 query parameter -");
+    refused("82 F5 81 62 2E 2E", 6, 3);
+    refused("82 00 81 61 C3", 5, 3);
+    accepted("82 01 81 60", "discard 1 path segment -");
+    refused("82 20 84 61 31 61 32 61 33 61 34", 6, 2);
+    refused("82 20 81 61 41", 6, 3);
+    refused("82 64 63 6F 61 70 81 61 61", 6, 1);
+    refused("82 00 F6", 2, 2);
+    refused("80 00", 7, 1);
+}
+
+#[test]
+fn reading_1_a_missing_item_has_no_first_byte() {
+    refused("81", 1, 1);
+    refused("85 F4", 2, 1);
+    refused("82 18 17", 3, 1);
+    refused("82 00", 1, 2);
+    refused("82 00 82 60", 1, 4);
+    refused("82 20 82 61 61", 1, 5);
+}
+
+#[test]
+fn reading_2_of_major_type_7_only_true_and_null() {
+    for first in 0xE0..=0xFF_u8 {
+        let places: [(&[u8], usize, bool); 8] = [
+            (&[], 0, false),
+            (&[0x82], 1, first == 0xF5 || first == 0xF6),
+            (&[0x82, 0x20], 2, false),
+            (&[0x83, 0x20, 0x81], 3, false),
+            (&[0x83, 0x00], 2, first == 0xF6),
+            (&[0x83, 0x00, 0x81], 3, false),
+            (&[0x84, 0x00, 0xF6], 3, first == 0xF6),
+            (&[0x84, 0x00, 0xF6, 0xF6], 4, false),
+        ];
+        for (before, place, allowed) in places {
+            let input = [before, &[first]].concat();
+            let expected = if allowed {
+                at(1, input.len())
+            } else {
+                at(2, place)
+            };
+            assert_eq!(outcome(&input), expected, "{input:02x?}");
+        }
+    }
+}
+
+#[test]
+fn reading_2_maps_and_tags_have_no_place() {
+    for first in 0xA0..=0xDF_u8 {
+        for before in [
+            &[][..],
+            &[0x82],
+            &[0x82, 0x20],
+            &[0x82, 0x20, 0x81],
+            &[0x82, 0x00, 0x81],
+        ] {
+            let input = [before, &[first]].concat();
+            assert_eq!(outcome(&input), at(2, before.len()), "{input:02x?}");
+        }
+    }
+}
+
+#[test]
+fn reading_3_the_order_within_an_item() {
+    refused("81 19 00", 1, 1);
+    refused("81 19 00 17", 3, 1);
+    refused("81 19", 1, 1);
+    refused("81 1C", 3, 1);
+    refused("81 1F", 3, 1);
+    refused("82 71", 4, 1);
+    refused("82 62 FF", 1, 1);
+    refused("82 62 41 FF", 5, 1);
+    refused("82 61 41", 6, 1);
+    refused("82 5F", 2, 1);
+    refused("82 00 9F", 3, 2);
+    refused("82 00 81 7F", 3, 3);
+    refused("82 00 81 79 00 05", 3, 3);
+    refused("82 00 81 79 01 00", 4, 3);
+    refused("82 00 81 63 2E 2E", 1, 3);
+    refused("82 00 98 21", 4, 2);
+}
+
+#[test]
+fn reading_3_heads_are_the_shortest() {
+    for (hex, outcome_of_head) in [
+        ("81 18 18", ACCEPTED),
+        ("81 18 17", at(3, 1)),
+        ("81 19 00FF", at(3, 1)),
+        ("81 19 0100", at(4, 1)),
+        ("81 1A 0000FFFF", at(3, 1)),
+        ("81 1A 00010000", at(4, 1)),
+        ("81 1B 00000000FFFFFFFF", at(3, 1)),
+        ("81 1B 0000000100000000", at(4, 1)),
+        ("81 1A 000100", at(1, 1)),
+        ("81 1B 00000001000000", at(1, 1)),
+    ] {
+        assert_eq!(outcome(&bytes(hex)), outcome_of_head, "{hex}");
+    }
+}
+
+#[test]
+fn reading_4_more_than_five_outer_items() {
+    refused("98 06", 3, 0);
+    refused("98", 1, 0);
+    refused("98 18", 2, 0);
+    refused("86", 2, 0);
+    refused("9B FFFFFFFFFFFFFFFF", 2, 0);
+    refused("9F", 3, 0);
+    refused("00", 2, 0);
+    refused("F6", 2, 0);
+}
+
+#[test]
+fn reading_5_the_opening_is_judged_before_the_number_of_items() {
+    refused("81 22", 6, 1);
+    refused("81 64 63 6F 61 70", 6, 1);
+    refused("85 18 80", 4, 1);
+    refused("81 18 00", 3, 1);
+    refused("85 00", 2, 1);
+    refused("85 F5", 2, 1);
+    refused("81 20", 2, 1);
+    refused("81 F6", 2, 1);
+    refused("81 61 61", 2, 1);
+    refused("81 61 FF", 5, 1);
+    refused("81 00", 2, 1);
+    refused("81 00 00", 2, 1);
+    refused("82 00 F6", 2, 2);
+    accepted("81 F5", "discard all");
+    accepted("81 01", "discard 1");
+}
+
+#[test]
+fn reading_6_a_scheme_number_is_in_the_table_or_6() {
+    for number in 0..=23_u8 {
+        let expected = match number {
+            0 | 1 | 6..=9 => ACCEPTED,
+            _ => at(6, 1),
+        };
+        let input = [0x82, 0x20 | number, 0x81, 0x61, b'a'];
+        assert_eq!(outcome(&input), expected, "{number}");
+    }
+    refused("82 38 09 81 61 61", 3, 1);
+    refused("82 38 18", 6, 1);
+    refused("82 39 0100", 6, 1);
+    refused("82 3A 00010000", 6, 1);
+    refused("82 3B 7FFFFFFFFFFFFFFF", 6, 1);
+    refused("82 3B 8000000000000000", 6, 1);
+    refused("82 3B FFFFFFFFFFFFFFFF", 6, 1);
+    refused("82 3B 00000000FFFFFFFF", 3, 1);
+    refused("82 3F", 3, 1);
+}
+
+/// The outcome of a scheme text before the label "a".
+fn scheme(text: &str) -> (u8, Option<usize>) {
+    let scheme = [encode::head(3, text.len()), text.into()].concat();
+    outcome_of(&[&scheme, &texts(&[1])])
+}
+
+#[test]
+fn reading_6_only_the_six_names_are_refused() {
+    for text in [
+        "coap", "coaps", "coap+tcp", "coaps+tcp", "coap+ws", "coaps+ws",
+    ] {
+        assert_eq!(scheme(text), at(6, 1), "{text}");
+    }
+    for text in [
+        "http", "urn", "a", "z0+.-", "coa", "coap+", "coaps+", "coapss", "coap+tc", "coap+wss",
+    ] {
+        assert_eq!(scheme(text), ACCEPTED, "{text}");
+    }
+    for text in [
+        "Coap", "aB", "0a", "+a", ".a", "-a", "a_", "a/", "a:", "a`", "a{", "a@", "a[", "a,",
+        "\u{e9}",
+    ] {
+        assert_eq!(scheme(text), at(6, 1), "{text}");
+    }
+}
+
+#[test]
+fn reading_7_the_length_comes_before_the_rule() {
+    refused("82 60 81 61 61", 4, 1);
+    refused("82 20 81 60", 4, 3);
+    refused("83 00 F6 80", 4, 3);
+}
+
+#[test]
+fn reading_8_the_items_of_an_authority() {
+    refused("82 20 81 05", 2, 3);
+    refused("82 20 81 20", 2, 3);
+    refused("82 20 81 80", 2, 3);
+    refused("82 20 82 44 01020304", 1, 8);
+    refused("82 20 82 44 01020304 61", 2, 8);
+    refused("82 20 82 44 01020304 44", 2, 8);
+    refused("82 20 82 44 01020304 1F", 3, 8);
+    refused("82 20 83 44 01020304 05", 1, 9);
+    refused("82 20 83 44 01020304 05 05", 2, 9);
+    refused("82 20 83 61 61 05", 1, 6);
+    refused("82 20 83 61 61 05 05", 2, 6);
+    refused("82 20 83 61 61 05 61", 2, 6);
+    refused("82 20 83 61 61 05 FF", 2, 6);
+    refused("82 20 82 61 61 44", 2, 5);
+    refused("82 20 80", 4, 2);
+    refused("82 20 8A", 4, 2);
+    refused("82 20 F6", 2, 2);
+    refused("82 20 61 61", 2, 2);
+    accepted(
+        "82 20 82 61 61 05",
+        "scheme number 0 authority label 61 port 5",
+    );
+    accepted(
+        "82 F6 81 44 01020304",
+        "scheme none authority address 01020304",
+    );
+}
+
+#[test]
+fn reading_9_a_ninth_label() {
+    let eight = "82 20 89 61 61 61 61 61 61 61 61 61 61 61 61 61 61 61 61";
+    for (ninth, number) in [
+        ("7F", 3),
+        ("78", 1),
+        ("78 05", 3),
+        ("61", 4),
+        ("60", 4),
+        ("78 FF", 4),
+        ("44", 2),
+    ] {
+        refused(&format!("{eight} {ninth}"), number, 19);
+    }
+    refused(eight, 1, 19);
+    assert_eq!(outcome(&bytes(&format!("{eight} 05"))), ACCEPTED);
+}
+
+#[test]
+fn reading_10_rules_over_all_labels_come_after_the_port() {
+    let four = "61 31 61 32 61 33 61 34";
+    refused(&format!("82 20 84 {four}"), 6, 2);
+    refused(&format!("82 20 85 {four} 05"), 6, 2);
+    refused(&format!("82 20 85 {four} 1A 00010000"), 4, 11);
+    refused(&format!("82 20 85 {four} F6"), 2, 11);
+    refused(&format!("82 20 85 {four}"), 1, 11);
+    refused(&format!("83 20 84 {four} 00"), 6, 2);
+    assert_eq!(outcome(&bytes(&format!("82 20 85 {four} 61 35"))), ACCEPTED);
+    refused(
+        "83 70 61616161616161616161616161616161 84 61 31 61 32 61 33 61 34",
+        6,
+        18,
+    );
+}
+
+/// The outcome of a name with these labels.
+fn name(labels: &[&str]) -> (u8, Option<usize>) {
+    let labels: Vec<_> = labels
+        .iter()
+        .map(|label| [encode::head(3, label.len()), label.as_bytes().to_vec()].concat())
+        .collect();
+    outcome_of(&[COAP, &array(&labels)])
+}
+
+#[test]
+fn reading_10_the_ipv4_look() {
+    for label in [
+        "0", "9", "10", "99", "100", "199", "200", "249", "250", "255",
+    ] {
+        assert_eq!(name(&[label, "1", "2", "3"]), at(6, 2), "{label}");
+        assert_eq!(name(&["1", "2", "3", label]), at(6, 2), "{label}");
+        assert_eq!(name(&["1", label, "3"]), ACCEPTED, "{label}");
+        assert_eq!(name(&["1", "2", "3", "4", label]), ACCEPTED, "{label}");
+    }
+    for label in [
+        "256", "260", "300", "999", "1000", "00", "01", "001", "010", "1a", "a1", "+1", "-1",
+        "\u{0661}",
+    ] {
+        assert_eq!(name(&[label, "1", "2", "3"]), ACCEPTED, "{label}");
+        assert_eq!(name(&["1", "2", "3", label]), ACCEPTED, "{label}");
+    }
+}
+
+#[test]
+fn reading_11_letters_are_ascii() {
+    for label in [
+        "\u{c9}", "@", "[", "[::1]", "`", "-", "/", " ", "\0", "\u{7f}", "xn--a", "\u{ff0e}",
+    ] {
+        assert_eq!(name(&[label]), ACCEPTED, "{label}");
+    }
+    for label in ["A", "Z", "aM", "Aa", ".", "a.", ".a"] {
+        assert_eq!(name(&[label]), at(6, 3), "{label}");
+        assert_eq!(name(&["b", label]), at(6, 5), "{label}");
+    }
+    accepted(
+        "82 20 82 61 61 19 1633",
+        "scheme number 0 authority label 61 port 5683",
+    );
+    // Two bytes of 128 characters: the length is that in bytes.
+    let fragment = [encode::head(3, 256), "\u{e9}".repeat(128).into_bytes()].concat();
+    assert_eq!(outcome_of(&[TRUE, NULL, NULL, &fragment]), at(4, 4));
+}
+
+#[test]
+fn reading_12_a_null_in_the_fragments_place() {
+    refused("84 00 F6 F6 F6", 2, 4);
+    refused("85 20 81 61 61 F6 F6 F6", 2, 7);
+    refused("83 00 F6 F6", 2, 3);
+    refused("84 20 81 61 61 F6 F6", 2, 6);
+    accepted("84 00 F6 F6 60", "discard 0 fragment -");
+    refused("84 00 F6 F6 81 60", 2, 4);
+    refused("84 00 F6 F6 F5", 2, 4);
+}
+
+#[test]
+fn reading_13_cuts_are_at_the_items_first_byte() {
+    refused("82 00 81 63 61 61", 1, 3);
+    refused("82 00 81 78 20 61", 1, 3);
+    refused("82 00 81 78", 1, 3);
+    refused("82 00 98", 1, 2);
+    refused("82 20 81 44 010203", 1, 3);
+    refused("82 20 82 61 61 19 00", 1, 5);
+    refused("84 00 F6 F6 61", 1, 4);
+}
+
+#[test]
+fn dots_as_segments() {
+    for (segment, expected) in [
+        (".", at(6, 3)),
+        ("..", at(6, 3)),
+        ("...", ACCEPTED),
+        (".a", ACCEPTED),
+        ("a.", ACCEPTED),
+    ] {
+        let segment = [encode::head(3, segment.len()), segment.into()].concat();
+        let list = array(&[segment]);
+        assert_eq!(outcome_of(&[TRUE, &list]), expected);
+        assert_eq!(outcome_of(&[TRUE, NULL, &list]), ACCEPTED);
+    }
+}
+
+#[test]
+fn utf8_at_the_ends_of_its_ranges() {
+    let well = [
+        "7F", "C280", "DFBF", "E0A080", "ECBFBF", "ED9FBF", "EE8080", "EFBFBF", "F0908080",
+        "F48FBFBF",
+    ];
+    let ill = [
+        "80", "BF", "C080", "C1BF", "C27F", "C2C0", "E09FBF", "EDA080", "E180", "E18041",
+        "F08FBFBF", "F4908080", "F5808080", "F09080", "FE", "FF",
+    ];
+    for (hex, expected) in well
+        .map(|hex| (hex, ACCEPTED))
+        .into_iter()
+        .chain(ill.map(|hex| (hex, at(5, 4))))
+    {
+        let content = bytes(hex);
+        let fragment = [encode::head(3, content.len()), content].concat();
+        assert_eq!(
+            outcome_of(&[TRUE, NULL, NULL, &fragment]),
+            expected,
+            "{hex}"
+        );
+    }
+}
+
+#[test]
+fn size_of_the_input() {
+    // Four segments of 255 bytes, each with a head of 2, an outer array and a path of one byte each; a discard of one.
+    let path = |last| texts(&[255, 255, 255, last]);
+    assert_eq!(array(&[TRUE.to_vec(), path(248)]).len(), 1024);
+    assert_eq!(outcome_of(&[TRUE, &path(247)]), ACCEPTED);
+    assert_eq!(outcome_of(&[TRUE, &path(248)]), ACCEPTED);
+    assert_eq!(outcome_of(&[TRUE, &path(249)]), at(4, 1024));
+    assert_eq!(outcome(&[0xFF; 1024]), at(2, 0));
+    assert_eq!(outcome(&[0xFF; 1025]), at(4, 1024));
+    assert_eq!(outcome(&[0x80; 5000]), at(4, 1024));
+}
+
+#[test]
+fn sizes_of_the_path() {
+    for (count, expected) in [
+        (0, ACCEPTED),
+        (1, ACCEPTED),
+        (31, ACCEPTED),
+        (32, ACCEPTED),
+        (33, at(4, 2)),
+    ] {
+        assert_eq!(
+            outcome_of(&[TRUE, &texts(&vec![1; count])]),
+            expected,
+            "{count}"
+        );
+    }
+    for (length, expected) in [
+        (0, ACCEPTED),
+        (254, ACCEPTED),
+        (255, ACCEPTED),
+        (256, at(4, 5)),
+    ] {
+        assert_eq!(
+            outcome_of(&[TRUE, &texts(&[1, length])]),
+            expected,
+            "{length}"
+        );
+    }
+}
+
+#[test]
+fn sizes_of_the_query() {
+    for (count, expected) in [
+        (0, at(4, 3)),
+        (1, ACCEPTED),
+        (15, ACCEPTED),
+        (16, ACCEPTED),
+        (17, at(4, 3)),
+    ] {
+        assert_eq!(
+            outcome_of(&[TRUE, NULL, &texts(&vec![1; count])]),
+            expected,
+            "{count}"
+        );
+    }
+    for (length, expected) in [
+        (0, ACCEPTED),
+        (254, ACCEPTED),
+        (255, ACCEPTED),
+        (256, at(4, 6)),
+    ] {
+        assert_eq!(
+            outcome_of(&[TRUE, NULL, &texts(&[1, length])]),
+            expected,
+            "{length}"
+        );
+    }
+}
+
+#[test]
+fn size_of_the_fragment() {
+    for (length, expected) in [
+        (0, ACCEPTED),
+        (254, ACCEPTED),
+        (255, ACCEPTED),
+        (256, at(4, 4)),
+    ] {
+        assert_eq!(
+            outcome_of(&[TRUE, NULL, NULL, &text(length)]),
+            expected,
+            "{length}"
+        );
+    }
+}
+
+#[test]
+fn sizes_of_labels() {
+    // The ninth label begins after an outer head, a scheme, an array head and 8 labels of 2 bytes.
+    for (count, expected) in [
+        (0, at(4, 2)),
+        (1, ACCEPTED),
+        (7, ACCEPTED),
+        (8, ACCEPTED),
+        (9, at(4, 19)),
+        (10, at(4, 2)),
+    ] {
+        assert_eq!(
+            outcome_of(&[COAP, &texts(&vec![1; count])]),
+            expected,
+            "{count}"
+        );
+    }
+    for (length, expected) in [
+        (0, at(4, 5)),
+        (1, ACCEPTED),
+        (62, ACCEPTED),
+        (63, ACCEPTED),
+        (64, at(4, 5)),
+    ] {
+        assert_eq!(
+            outcome_of(&[COAP, &texts(&[1, length])]),
+            expected,
+            "{length}"
+        );
+    }
+}
+
+#[test]
+fn size_of_a_name() {
+    for (labels, expected) in [
+        (&[63, 63, 63, 62][..], ACCEPTED),
+        (&[63, 63, 63, 63], ACCEPTED),
+        (&[63, 63, 63, 61, 1], ACCEPTED),
+        (&[63, 63, 63, 62, 1], at(6, 2)),
+        (&[63, 63, 63, 63, 1], at(6, 2)),
+        (&[31, 31, 31, 31, 31, 31, 31, 30], ACCEPTED),
+        (&[31, 31, 31, 31, 31, 31, 31, 31], ACCEPTED),
+        (&[31, 31, 31, 31, 31, 31, 31, 32], at(6, 2)),
+    ] {
+        assert_eq!(outcome_of(&[COAP, &texts(labels)]), expected, "{labels:?}");
+    }
+}
+
+#[test]
+fn size_of_an_authority() {
+    // Labels and one port.
+    for (items, expected) in [(8, ACCEPTED), (9, ACCEPTED), (10, at(4, 2))] {
+        let mut authority = vec![text(1); items - 1];
+        authority.push(vec![5]);
+        assert_eq!(outcome_of(&[COAP, &array(&authority)]), expected, "{items}");
+    }
+}
+
+#[test]
+fn size_of_an_address() {
+    for length in [0, 1, 3, 4, 5, 15, 16, 17, 24, 256] {
+        let expected = if length == 4 || length == 16 {
+            ACCEPTED
+        } else {
+            at(4, 3)
+        };
+        assert_eq!(
+            outcome_of(&[COAP, &array(&[string(length)])]),
+            expected,
+            "{length}"
+        );
+    }
+}
+
+#[test]
+fn size_of_a_scheme_text() {
+    for (length, expected) in [
+        (0, at(4, 1)),
+        (1, ACCEPTED),
+        (15, ACCEPTED),
+        (16, ACCEPTED),
+        (17, at(4, 1)),
+    ] {
+        assert_eq!(
+            outcome_of(&[&text(length), &texts(&[1])]),
+            expected,
+            "{length}"
+        );
+    }
+}
+
+#[test]
+fn size_of_a_port() {
+    for (port, expected) in [
+        ("00", ACCEPTED),
+        ("19 FFFE", ACCEPTED),
+        ("19 FFFF", ACCEPTED),
+        ("1A 00010000", at(4, 5)),
+        ("1B FFFFFFFFFFFFFFFF", at(4, 5)),
+    ] {
+        assert_eq!(
+            outcome_of(&[COAP, &array(&[text(1), bytes(port)])]),
+            expected,
+            "{port}"
+        );
+    }
+}
+
+#[test]
+fn size_of_a_discard() {
+    for count in 0..=255 {
+        let expected = if count > 127 { at(4, 1) } else { ACCEPTED };
+        assert_eq!(
+            outcome_of(&[&encode::head(0, count), &texts(&[])]),
+            expected,
+            "{count}"
+        );
+    }
+    refused("81 1B FFFFFFFFFFFFFFFF", 4, 1);
+}
+
+#[test]
+fn number_of_outer_items() {
+    let rest = [texts(&[1]), texts(&[1]), text(1), text(1)];
+    for (count, expected) in [
+        (1, ACCEPTED),
+        (2, ACCEPTED),
+        (3, ACCEPTED),
+        (4, ACCEPTED),
+        (5, at(2, 1)),
+    ] {
+        let items = [&[TRUE.to_vec()], &rest[..count - 1]].concat();
+        assert_eq!(outcome(&array(&items)), expected, "discard, {count}");
+    }
+    for (count, expected) in [
+        (2, ACCEPTED),
+        (3, ACCEPTED),
+        (4, ACCEPTED),
+        (5, ACCEPTED),
+        (6, at(2, 0)),
+    ] {
+        let items = [&[COAP.to_vec(), texts(&[1])], &rest[..count - 2]].concat();
+        assert_eq!(outcome(&array(&items)), expected, "scheme, {count}");
+    }
+}
+
+#[test]
+fn tail_is_last_and_at_the_first_byte_after() {
+    refused("80 80", 7, 1);
+    refused("81 F5 FF FF", 7, 2);
+    refused("82 00 81 61 61 00", 7, 5);
+    refused("82 00 81 62 2E 2E 00", 6, 3);
+}
