@@ -1,4 +1,4 @@
-// Measures the proved functions against plain Rust, after a comparison of their answers. Arguments: the names of the leaves to measure (none: all).
+// Measures the proved functions against plain Rust, after a comparison of their answers. Arguments: the names of the parts to measure (none: all).
 use std::hint::black_box;
 use std::time::Instant;
 
@@ -12,6 +12,8 @@ extern "C" {
 mod address;
 mod escape;
 mod items;
+mod links;
+mod read;
 mod utf8;
 
 // A generator with a fixed seed.
@@ -40,7 +42,7 @@ pub fn room() -> &'static mut [u8] {
     unsafe { (&raw mut ROOM).as_mut().unwrap() }
 }
 
-// How many calls a turn makes.
+// How many calls a turn makes, at least.
 const CALLS: usize = 4096;
 
 // How many inputs there are of each size, the variable INPUTS. So many as are called in a turn are more than the processor learns the way through.
@@ -74,15 +76,16 @@ pub fn compare<I, O>(name: &str, sizes: &[usize], inputs: impl Fn(usize) -> Vec<
     println!("{:>8}", "ratio");
     for &size in sizes {
         let inputs = inputs(size);
+        let calls_made = CALLS.max(inputs.len());
         let mut best = vec![f64::MAX; calls.len()];
         for _ in 0..100 {
             for (best, (_, call)) in best.iter_mut().zip(calls) {
                 let call = black_box(*call);
                 let start = Instant::now();
-                for input in inputs.iter().cycle().take(CALLS) {
+                for input in inputs.iter().cycle().take(calls_made) {
                     black_box(call(input));
                 }
-                let each = start.elapsed().as_secs_f64() * 1e9 / CALLS as f64;
+                let each = start.elapsed().as_secs_f64() * 1e9 / calls_made as f64;
                 *best = best.min(each);
             }
         }
@@ -98,8 +101,14 @@ pub fn compare<I, O>(name: &str, sizes: &[usize], inputs: impl Fn(usize) -> Vec<
 fn main() {
     black_box(placement as *const ());
     let names: Vec<String> = std::env::args().skip(1).collect();
-    let leaves: [(&str, fn()); 4] = [("utf8", utf8::measure), ("items", items::measure), ("escape", escape::measure), ("address", address::measure)];
-    for (name, measure) in leaves {
+    let parts: [(&str, fn()); 5] = [
+        ("utf8", utf8::measure),
+        ("items", items::measure),
+        ("escape", escape::measure),
+        ("address", address::measure),
+        ("read", read::measure),
+    ];
+    for (name, measure) in parts {
         if names.is_empty() || names.iter().any(|n| n == name) {
             measure();
         }

@@ -1,0 +1,153 @@
+// Mixed links, as gateways send them: absolute ones with addresses or names, references to resolve, texts of ASCII and of other characters, some damaged.
+use crate::Random;
+
+fn head(out: &mut Vec<u8>, major: u8, n: u64) {
+    let major = major << 5;
+    match n {
+        0..=23 => out.push(major | n as u8),
+        24..=0xff => out.extend([major | 24, n as u8]),
+        _ => {
+            out.push(major | 25);
+            out.extend((n as u16).to_be_bytes());
+        }
+    }
+}
+
+fn text(out: &mut Vec<u8>, t: &str) {
+    head(out, 3, t.len() as u64);
+    out.extend(t.as_bytes());
+}
+
+const NULL: u8 = 0xf6;
+const WORDS: [&str; 12] = [".well-known", "core", "position", "gnss", "1", "bow", "stern", "raw", "fix-2d", "λιμάνι", "距離", "Schleppzug-Nr.7"];
+const NAMES: [&str; 8] = ["tug", "harbour", "example", "org", "node-17", "r2d2", "antwerp", "local"];
+
+fn words(random: &mut Random, most: usize) -> Vec<u8> {
+    let mut out = Vec::new();
+    let n = random.below(most + 1);
+    head(&mut out, 4, n as u64);
+    for _ in 0..n {
+        text(&mut out, WORDS[random.below(WORDS.len())]);
+    }
+    out
+}
+
+fn parameters(random: &mut Random) -> Vec<u8> {
+    let mut out = Vec::new();
+    let n = 1 + random.below(3);
+    head(&mut out, 4, n as u64);
+    for _ in 0..n {
+        text(&mut out, &format!("{}={}", NAMES[random.below(NAMES.len())], random.below(1000)));
+    }
+    out
+}
+
+fn authority(random: &mut Random) -> Vec<u8> {
+    let mut items = Vec::new();
+    let mut n = 1;
+    match random.below(20) {
+        0..=7 => {
+            head(&mut items, 2, 4);
+            items.extend((random.next() as u32).to_be_bytes());
+        }
+        8..=10 => {
+            head(&mut items, 2, 16);
+            items.extend([0x20, 1, 0x0d, 0xb8, 0, 0, 0, 0]);
+            items.extend(random.next().to_be_bytes());
+        }
+        _ => {
+            n = 1 + random.below(4);
+            for _ in 0..n {
+                text(&mut items, NAMES[random.below(NAMES.len())]);
+            }
+        }
+    }
+    if random.below(5) < 2 {
+        head(&mut items, 0, 1024 + random.below(64000) as u64);
+        n += 1;
+    }
+    let mut out = Vec::new();
+    head(&mut out, 4, n as u64);
+    out.extend(items);
+    out
+}
+
+// The items of a link: what is unset at the end is left off, elsewhere it is null.
+fn joined(opening: Vec<Vec<u8>>, rest: [Option<Vec<u8>>; 3]) -> Vec<u8> {
+    let last = rest.iter().rposition(Option::is_some).map_or(0, |k| k + 1);
+    let mut out = Vec::new();
+    head(&mut out, 4, (opening.len() + last) as u64);
+    out.extend(opening.concat());
+    for item in &rest[..last] {
+        match item {
+            Some(bytes) => out.extend(bytes),
+            None => out.push(NULL),
+        }
+    }
+    out
+}
+
+fn link(random: &mut Random) -> Vec<u8> {
+    let mut item = Vec::new();
+    let opening = match random.below(10) {
+        0..=5 => {
+            head(&mut item, 1, [0, 1, 6, 7][random.below(4)]);
+            vec![item, authority(random)]
+        }
+        6 => {
+            text(&mut item, ["http", "https", "mqtt", "urn"][random.below(4)]);
+            vec![item, authority(random)]
+        }
+        7 => vec![vec![NULL], authority(random)],
+        _ => {
+            head(&mut item, 0, 1 + random.below(4) as u64);
+            vec![item]
+        }
+    };
+    let path = (random.below(10) < 9).then(|| words(random, 6));
+    let query = (random.below(10) < 3).then(|| parameters(random));
+    let fragment = (random.below(20) < 1).then(|| {
+        let mut out = Vec::new();
+        text(&mut out, WORDS[random.below(WORDS.len())]);
+        out
+    });
+    joined(opening, [path, query, fragment])
+}
+
+// One byte changed, or bytes cut off, or one added.
+fn damage(random: &mut Random, link: &mut Vec<u8>) {
+    let at = random.below(link.len());
+    match random.below(3) {
+        0 => link[at] = random.next() as u8,
+        1 => link.truncate(at),
+        _ => link.push(random.next() as u8),
+    }
+}
+
+// So many links, one of ten damaged.
+pub fn mixed(n: usize) -> Vec<Vec<u8>> {
+    let mut random = Random::new();
+    (0..n)
+        .map(|_| {
+            let mut bytes = link(&mut random);
+            if random.below(10) == 0 {
+                damage(&mut random, &mut bytes);
+            }
+            bytes
+        })
+        .collect()
+}
+
+// An absolute link of at most so many bytes, and few less: a path of segments of 7 bytes, or of 32 longer ones.
+pub fn sized(size: usize) -> Vec<u8> {
+    let opening = vec![vec![0x20], vec![0x81, 0x44, 198, 51, 100, 1]];
+    let left = size - 10;
+    let count = (left / 8).clamp(1, 32);
+    let mut path = Vec::new();
+    head(&mut path, 4, count as u64);
+    for k in 0..count {
+        let share = left * (k + 1) / count - left * k / count;
+        text(&mut path, &"s".repeat(if share < 26 { (share - 1).min(23) } else { share - 2 }));
+    }
+    joined(opening, [Some(path), None, None])
+}

@@ -1,0 +1,58 @@
+// Reading links: number and components.
+use crate::{agree, compare, links, Call};
+use compare::generate::Generator;
+use compare::reader;
+
+extern "C" {
+    fn bench_read(s: *const u8, length: usize) -> u64;
+    fn bench_segments(s: *const u8, length: usize) -> usize;
+}
+
+type Input = Vec<u8>;
+
+fn rattle(s: &Input) -> u64 {
+    unsafe { bench_read(s.as_ptr(), s.len()) }
+}
+
+// The components are made in full, and then dropped.
+fn rust(s: &Input) -> u64 {
+    match std::hint::black_box(reader::read(s)) {
+        Ok(_) => 0,
+        Err(refusal) => refusal.number() as u64,
+    }
+}
+
+fn rattle_segments(s: &Input) -> usize {
+    unsafe { bench_segments(s.as_ptr(), s.len()) }
+}
+
+fn rust_segments(s: &Input) -> usize {
+    reader::read(s).ok().and_then(|r| r.path.map(|p| p.len())).unwrap_or(0)
+}
+
+const CALLS: [Call<Input, u64>; 2] = [("rattle", rattle), ("rust", rust)];
+const SEGMENTS: [Call<Input, usize>; 2] = [("rattle", rattle_segments), ("rust", rust_segments)];
+
+// The inputs of the read requests that the comparison generates.
+fn requests(n: usize) -> Vec<Input> {
+    let hex = |word: &[u8]| -> Option<Input> {
+        let digit = |b: u8| (b as char).to_digit(16).map(|d| d as u8);
+        if word == b"-" {
+            return Some(Vec::new());
+        }
+        word.chunks(2).map(|pair| Some(digit(pair[0])? << 4 | digit(*pair.get(1)?)?)).collect()
+    };
+    Generator::new(1).filter_map(|line| hex(line.strip_prefix(b"read ")?)).take(n).collect()
+}
+
+pub fn measure() {
+    let sized = |size: usize| vec![links::sized(size); 64];
+    for input in links::mixed(10_000).iter().chain(&requests(10_000)).chain(&sized(1024)) {
+        agree(input, &CALLS);
+        agree(input, &SEGMENTS);
+    }
+    println!("read: the numbers and the segments agree");
+    compare("mixed links", &[10_000], links::mixed, &CALLS);
+    compare("requests", &[10_000], requests, &CALLS);
+    compare("bytes of a link", &[16, 32, 64, 128, 256, 512, 1024], sized, &CALLS);
+}

@@ -1,0 +1,28 @@
+// The library's calls, as the measuring program of bench/ makes them.
+ghost use mathlib.Core.Path.{_≡_};
+ghost use lib.ListN.{length};
+ghost use Rattle.rules.specs.Model.{limits, elements};
+ghost use Rattle.rules.specs.Writing.{readCall};
+
+// The number of a link; its components are made too.
+#[no_mangle]
+pub extern "C" fn bench_read(s: &[u8]) -> u64
+    ensures { λ r. ⌜ r ≡ readCall limits (now (s .entry)) .number ⌝ }
+{
+    let reading = cri::read(s);
+    reading.number as u64
+}
+
+// How many segments its path has.
+#[no_mangle]
+pub extern "C" fn bench_segments(s: &[u8]) -> usize
+    ensures { λ r. ⌜ r ≡ length (elements (readCall limits (now (s .entry)) .components .path)) ⌝ }
+{
+    let reading = cri::read(s);
+    let components = reading.components;
+    let path = components.path;
+    match path {
+        cri::Texts::Unset => 0,
+        cri::Texts::Set(n) => n,
+    }
+}
