@@ -1,7 +1,7 @@
 -- Steps of a walk over the bytes from a position to the end of a part.
 use Prim.Native.Nat.{ℕ, zero, suc, _+_, _-_, _≤_, _<_}
 use native.Mathlib.Omega.{arith}
-use mathlib.Core.Path.{_≡_, refl, sym, ap, ap₂, _∙_}
+use mathlib.Core.Path.{_≡_, refl, sym, ap, ap₂, _∙_, subst}
 use mathlib.Core.Bool.{Bool, true, false, cond, not, _&&_, and-false, and-true, and-assoc}
 use mathlib.Core.List.{[], _∷_, _++_}
 use lib.ListN.{length, getD, take, drop}
@@ -66,6 +66,30 @@ passed-ascii s from end i n p h e =
       in-part = h;
       same = p .same ∙ ap utf8 (part-split s i end n h) ∙ ascii-first (part s i n) _ (sym e);
     }
+
+-- the last bytes of ASCII bytes are ASCII
+ascii-last : (s : Bytes) (a n k : ℕ) → a + n ≤ length s → k ≤ n → all isAscii (part s a n) ≡ true → all isAscii (part s (a + k) (n - k)) ≡ true
+unfolding all
+ascii-last s a n zero l h e =
+    let i : a + 0 ≡ a = omega arith in
+    let m : n - 0 ≡ n = omega arith in
+    ap₂ (λ (i m : ℕ). all isAscii (part s i m)) i m ∙ e
+ascii-last s a n (suc k) l h e =
+    let c = part-cons s a n (a + 1) (n - 1) (omega arith) (omega arith) (omega arith) in
+    let i : a + suc k ≡ a + 1 + k = omega arith in
+    let m : n - suc k ≡ n - 1 - k = omega arith in
+    ap₂ (λ (i m : ℕ). all isAscii (part s i m)) i m
+    ∙ ascii-last s (a + 1) (n - 1) k (omega arith) (omega arith) (and-right (ltb (getD s a 0) 0x80) _ (ap (all isAscii) (sym c) ∙ e))
+
+-- the last n bytes, with i among them
+pub passed-last : (s : Bytes) (i end n : ℕ) → i ≤ end → end - i ≤ n → n ≤ end → end ≤ length s → true ≡ all isAscii (part s (end - n) n) → Passed s i end end
+passed-last s i end n h m l z e =
+    let k : ℕ = n - (end - i) in
+    let a : end - n + k ≡ i = omega arith in
+    let b : n - k ≡ end - i = omega arith in
+    let c : i + (end - i) ≡ end = omega arith in
+    let t = ascii-last s (end - n) n k (omega arith) (omega arith) (sym e) in
+    subst (Passed s i end) c (passed-ascii s i end i (end - i) (passed-none s i end h) (omega arith) (sym (ap₂ (λ (i m : ℕ). all isAscii (part s i m)) (sym a) (sym b) ∙ t)))
 
 pub passed-then : (s : Bytes) (from end i j : ℕ) → Passed s from end i → Passed s i end j → Passed s from end j
 passed-then s from end i j p q = record { forward = omega (arith, p .forward, q .forward); in-part = q .in-part; same = p .same ∙ q .same }

@@ -85,13 +85,31 @@ fn skip(s: &[u8], from: usize, end: usize, n: usize) -> usize
     i
 }
 
+// Skips the bytes from i to the end, fewer than 8, where the last 8 bytes are ASCII; the part begins at a position before i.
+fn skip_last(s: &[u8], from: usize, i: usize, end: usize) -> usize
+    requires { ⌜ (from ≤ i) × (i ≤ end) × (end ≤ length (now s)) ⌝ }
+    ensures { λ r. ⌜ Passed (now (s .entry)) i end r ⌝ }
+{
+    if i < end {
+        if end - i < 8 {
+            if 8 <= end - from {
+                if ascii(s, end - 8, 8) {
+                    return end;
+                }
+            }
+        }
+    }
+    i
+}
+
 // Skips the ASCII bytes at a position, in blocks as far as they go.
 fn skip_ascii(s: &[u8], from: usize, end: usize) -> usize
     requires { ⌜ (from < end) × (end ≤ length (now s)) ⌝ }
     ensures { λ r. ⌜ Passed (now (s .entry)) from end r ⌝ }
 {
     if s[from] < 0x80 {
-        return skip(s, skip(s, skip(s, from, end, 32), end, 8), end, 1);
+        let i = skip(s, skip(s, from, end, 32), end, 8);
+        return skip(s, skip_last(s, from, i, end), end, 1);
     }
     from
 }

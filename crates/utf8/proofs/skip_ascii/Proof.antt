@@ -14,14 +14,17 @@ skip-requires c κs = search needs
 skip-requires-2 : tie.Need-skip-requires-2
 skip-requires-2 c κs = search needs
 
+skip-last-requires : tie.Need-skip-last-requires
+skip-last-requires c κs = search needs
+
 skip-requires-3 : tie.Need-skip-requires-3
 skip-requires-3 c κs = search needs
 
 returns : tie.Need-returns
 returns c =
-    let a = c .before .before .before .before .before .before .args in
+    let a = c .before .before .before .before .before .before .before .args in
     let then = passed-then (now (a .s)) (a .from) (a .end) in
-    then _ _ (then _ _ (c .before .before .skip .ensures) (c .before .skip2 .ensures)) (c .skip3 .ensures)
+    then _ _ (then _ _ (then _ _ (c .before .before .before .skip .ensures) (c .before .before .skip2 .ensures)) (c .before .skip-last .ensures)) (c .skip3 .ensures)
 
 returns-2 : tie.Need-returns-2
 returns-2 c = search needs
@@ -33,6 +36,7 @@ skip-ascii-spec =
     shared-slice-read-if1
     skip-requires
     skip-requires-2
+    skip-last-requires
     skip-requires-3
     returns
     returns-2)
