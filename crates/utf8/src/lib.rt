@@ -85,17 +85,15 @@ fn skip(s: &[u8], from: usize, end: usize, n: usize) -> usize
     i
 }
 
-// Skips the bytes from i to the end, fewer than 8, where the last 8 bytes are ASCII; the part begins at a position before i.
-fn skip_last(s: &[u8], from: usize, i: usize, end: usize) -> usize
-    requires { ⌜ (from ≤ i) × (i ≤ end) × (end ≤ length (now s)) ⌝ }
+// Skips the bytes from a position to the end, fewer than 8, where the last 8 bytes are ASCII.
+fn skip_last(s: &[u8], i: usize, end: usize) -> usize
+    requires { ⌜ (i ≤ end) × (8 ≤ end) × (end ≤ length (now s)) ⌝ }
     ensures { λ r. ⌜ Passed (now (s .entry)) i end r ⌝ }
 {
     if i < end {
         if end - i < 8 {
-            if 8 <= end - from {
-                if ascii(s, end - 8, 8) {
-                    return end;
-                }
+            if ascii(s, end - 8, 8) {
+                return end;
             }
         }
     }
@@ -107,9 +105,12 @@ fn skip_ascii(s: &[u8], from: usize, end: usize) -> usize
     requires { ⌜ (from < end) × (end ≤ length (now s)) ⌝ }
     ensures { λ r. ⌜ Passed (now (s .entry)) from end r ⌝ }
 {
+    if end - from < 8 {
+        return skip(s, from, end, 1);
+    }
     if s[from] < 0x80 {
         let i = skip(s, skip(s, from, end, 32), end, 8);
-        return skip(s, skip_last(s, from, i, end), end, 1);
+        return skip(s, skip_last(s, i, end), end, 1);
     }
     from
 }

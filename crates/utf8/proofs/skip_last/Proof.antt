@@ -10,9 +10,6 @@ use Rattle.utf8.proofs.skip_last.Tie as tie
 sub-if2 : tie.Need-sub-if2
 sub-if2 c = search needs
 
-sub-if3 : tie.Need-sub-if3
-sub-if3 c = search needs
-
 sub-ascii : tie.Need-sub-ascii
 sub-ascii c = search needs
 
@@ -21,8 +18,8 @@ ascii-requires c κs = search needs
 
 returns : tie.Need-returns
 returns c =
-    let a = c .before .before .before .before .before .before .args in
-    passed-last (now (a .s)) (a .i) (a .end) 8 (omega arith) (omega arith) (omega arith) (omega arith) (sym (c .if4 .taken) ∙ c .before .ascii .ensures)
+    let a = c .before .before .before .before .before .args in
+    passed-last (now (a .s)) (a .i) (a .end) 8 (omega arith) (omega arith) (omega arith) (omega arith) (sym (c .if3 .taken) ∙ c .before .ascii .ensures)
 
 returns-2 : tie.Need-returns-2
 returns-2 c = search needs
@@ -33,19 +30,6 @@ returns-3 c = search needs
 returns-4 : tie.Need-returns-4
 returns-4 c = search needs
 
-returns-5 : tie.Need-returns-5
-returns-5 c = search needs
-
 pub skip-last-spec : {M : Type 1} → statement M
 skip-last-spec =
-    tie.close
-    (tie.spec
-    sub-if2
-    sub-if3
-    sub-ascii
-    ascii-requires
-    returns
-    returns-2
-    returns-3
-    returns-4
-    returns-5)
+    tie.close (tie.spec sub-if2 sub-ascii ascii-requires returns returns-2 returns-3 returns-4)
