@@ -1,8 +1,7 @@
-// The heads of CBOR items (STD 94, section 3), read and written, and the negative integers that carry scheme numbers.
+// The heads of CBOR items (STD 94, section 3), read and written.
 ghost use mathlib.Core.Path.{_≡_};
-ghost use Prim.Native.Nat.{ℕ, _+_, _<_, _≤_, _^_};
+ghost use Prim.Native.Nat.{ℕ, _+_, _<_, _≤_};
 ghost use lib.ListN.{length};
-ghost use lib.IntN.{negsuc};
 ghost use Rattle.rules.specs.Bytes.{part, numberFrom};
 ghost use Rattle.rules.specs.Head.{Kind as Kind·rules, kindOf, width, shortest, readHead, majorOf, headBytes};
 ghost use Rattle.rules.specs.Reader.{spanAt};
@@ -10,7 +9,6 @@ ghost use Rattle.rules.proofs.Heads.{Fits};
 ghost use Rattle.rules.proofs.Texts.{ItemStands};
 ghost use Rattle.put.specs.Wrote.{Wrote};
 ghost use Rattle.cbor.specs.Heads.{kindIs, allows, itemIs, spanIs, accepted, argumentIs, leastOf, readArgument};
-ghost use Rattle.cbor.specs.Schemes.{Below, schemeId, schemeNumber};
 use put::put_big_endian;
 use put::put_byte;
 
@@ -290,56 +288,4 @@ pub fn put_head(room: &mut [u8], at: usize, kind: Kind, v: u64) -> usize
     let info = shortest_of(v);
     let p = put_byte(room, at, major_of(kind) * 32 + info);
     put_big_endian(room, p, width_of(info), v)
-}
-
-// The negative integer that carries a scheme number.
-pub enum SchemeId {
-    Is(i64),
-    TooLarge,
-}
-
-// The scheme number that an integer carries.
-pub enum SchemeNumber {
-    Is(u64),
-    NotNegative,
-}
-
-// -1 - number
-fn id_of(number: u64) -> i64
-    requires { ⌜ number < 2 ^ 63 ⌝ }
-    ensures { λ r. ⌜ r ≡ negsuc number ⌝ }
-{
-    -(number as i64) - 1
-}
-
-// n of the integer -1 - n.
-fn number_of(id: i64) -> u64
-    requires { ⌜ Below id ⌝ }
-    ensures { λ r. ⌜ id ≡ negsuc r ⌝ }
-{
-    let m = -(id + 1);
-    m as u64
-}
-
-// The negative integer that carries a scheme number, if 64 bits hold it.
-pub fn scheme_id(number: u64) -> SchemeId
-    ensures { λ r. ⌜ r ≡ schemeId number ⌝ }
-{
-    if number < 9223372036854775808 {
-        let id = id_of(number);
-        SchemeId::Is(id)
-    } else {
-        SchemeId::TooLarge
-    }
-}
-
-// The scheme number that an integer carries, if the integer is negative.
-pub fn scheme_number(id: i64) -> SchemeNumber
-    ensures { λ r. ⌜ r ≡ schemeNumber id ⌝ }
-{
-    if id < 0 {
-        SchemeNumber::Is(number_of(id))
-    } else {
-        SchemeNumber::NotNegative
-    }
 }

@@ -1,11 +1,11 @@
--- `cbor::id_of` meets its contract.
+-- `scheme_ids::id_of` meets its contract.
 use mathlib.Core.Path.{sym, subst}
 use mir.Syntax.{w64}
 use mir.Val.{SFits}
-use Rattle.cbor.proofs.Schemes.{negated-fits, down, under, under-read}
+use Rattle.scheme_ids.proofs.Schemes.{negated-fits, down, under, under-read}
 use borrow.Author.Needs.{needs}
-use Rattle.cbor.proofs.id_of.Statement.{statement}
-use Rattle.cbor.proofs.id_of.Tie as tie
+use Rattle.scheme_ids.proofs.id_of.Statement.{statement}
+use Rattle.scheme_ids.proofs.id_of.Tie as tie
 
 cast-result : tie.Need-cast-result
 cast-result c = search needs

@@ -1,11 +1,11 @@
--- `cbor::scheme_number` meets its contract: by the sign.
+-- `scheme_ids::scheme_number` meets its contract: by the sign.
 use mathlib.Core.Path.{sym, ap, _∙_}
 use mir.Syntax.{w64}
 use mir.Facts.{toZ-ofZ}
-use Rattle.cbor.specs.Schemes.{schemeNumber}
-use Rattle.cbor.proofs.Schemes.{below, not-below}
-use Rattle.cbor.proofs.scheme_number.Statement.{statement}
-use Rattle.cbor.proofs.scheme_number.Tie as tie
+use Rattle.scheme_ids.specs.Schemes.{schemeNumber}
+use Rattle.scheme_ids.proofs.Schemes.{below, not-below}
+use Rattle.scheme_ids.proofs.scheme_number.Statement.{statement}
+use Rattle.scheme_ids.proofs.scheme_number.Tie as tie
 
 number-of-requires : tie.Need-number-of-requires
 number-of-requires c κs =

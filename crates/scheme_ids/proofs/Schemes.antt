@@ -11,9 +11,9 @@ use mir.Syntax.{w64}
 use mir.Val.{SFits, Fits, toZ, ofZ}
 use mir.Facts.{toZ-ofZ}
 use Rattle.rules.proofs.Tools.{cond-yes, cond-no}
-use Rattle.cbor.specs.Schemes.{Below, schemeId, schemeNumber}
-use Rattle.cbor.specs.declared.SchemeId.the-variants as SchemeIdV
-use Rattle.cbor.specs.declared.SchemeNumber.the-variants as SchemeNumberV
+use Rattle.scheme_ids.specs.Schemes.{Below, schemeId, schemeNumber}
+use Rattle.scheme_ids.specs.declared.SchemeId.the-variants as SchemeIdV
+use Rattle.scheme_ids.specs.declared.SchemeNumber.the-variants as SchemeNumberV
 
 -- ---- the ends, and the way there and back
 

@@ -3,10 +3,10 @@ use Prim.Native.Nat.{ℕ, _^_}
 use mathlib.Core.Bool.{cond}
 use lib.IntN.{ℤ, pos, negsuc}
 use lib.Dec.{ltb}
-use Rattle.cbor.specs.declared.SchemeId.{SchemeId}
-use Rattle.cbor.specs.declared.SchemeId.the-variants as SchemeIdV
-use Rattle.cbor.specs.declared.SchemeNumber.{SchemeNumber}
-use Rattle.cbor.specs.declared.SchemeNumber.the-variants as SchemeNumberV
+use Rattle.scheme_ids.specs.declared.SchemeId.{SchemeId}
+use Rattle.scheme_ids.specs.declared.SchemeId.the-variants as SchemeIdV
+use Rattle.scheme_ids.specs.declared.SchemeNumber.{SchemeNumber}
+use Rattle.scheme_ids.specs.declared.SchemeNumber.the-variants as SchemeNumberV
 
 -- an integer below 0
 abbrev pub Below : ℤ → Type 0

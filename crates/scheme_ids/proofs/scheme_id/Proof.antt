@@ -1,14 +1,14 @@
--- `cbor::scheme_id` meets its contract: by the range.
+-- `scheme_ids::scheme_id` meets its contract: by the range.
 use mathlib.Core.Path.{ap, _∙_}
 use lib.IntN.{ℤ, negsuc}
 use mir.Syntax.{w64}
 use mir.Val.{toZ, ofZ}
 use mir.Facts.{toZ-ofZ}
-use Rattle.cbor.specs.declared.SchemeId.the-variants.{Is}
-use Rattle.cbor.proofs.Schemes.{id-fits, id-too-large}
+use Rattle.scheme_ids.specs.declared.SchemeId.the-variants.{Is}
+use Rattle.scheme_ids.proofs.Schemes.{id-fits, id-too-large}
 use borrow.Author.Needs.{needs}
-use Rattle.cbor.proofs.scheme_id.Statement.{statement}
-use Rattle.cbor.proofs.scheme_id.Tie as tie
+use Rattle.scheme_ids.proofs.scheme_id.Statement.{statement}
+use Rattle.scheme_ids.proofs.scheme_id.Tie as tie
 
 id-of-requires : tie.Need-id-of-requires
 id-of-requires c κs = search needs

@@ -1,7 +1,7 @@
--- `cbor::number_of` meets its contract.
-use Rattle.cbor.proofs.Schemes.{add-fits, sub-fits, cast-fits, carried}
-use Rattle.cbor.proofs.number_of.Statement.{statement}
-use Rattle.cbor.proofs.number_of.Tie as tie
+-- `scheme_ids::number_of` meets its contract.
+use Rattle.scheme_ids.proofs.Schemes.{add-fits, sub-fits, cast-fits, carried}
+use Rattle.scheme_ids.proofs.number_of.Statement.{statement}
+use Rattle.scheme_ids.proofs.number_of.Tie as tie
 
 add-m : tie.Need-add-m
 add-m c = add-fits (c .args .id) (c .pre) (c .fits .id)
