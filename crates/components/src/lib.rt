@@ -7,7 +7,7 @@ ghost use Rattle.rules.specs.Reader.{spans};
 ghost use Rattle.rules.specs.Meaning.{schemeSpan, hostSpans, authoritySpans, openingSpans, textSpans, textSpan, components};
 ghost use Rattle.rules.specs.Writing.{labelsOf, openingLabels, noComponents, readCall};
 ghost use Rattle.rules.proofs.Standing.{ItemsStand, HostStands, OpeningStands, TextsStand, FoundStands};
-ghost use Rattle.reader.specs.Code.{slotOf, hostOf, authorityOf, schemeIs, openingIs, foundIs};
+ghost use Rattle.reader.specs.Code.{slotOf, hostOf, authorityOf, schemeOf, openingOf, foundOf};
 ghost use Rattle.components.specs.Layout.{spansLaid, schemeLaid, authorityLaid, openingLaid, textsLaid, fragmentLaid, componentsLaid, readingLaid};
 pub use cbor::Span;
 use cbor::span_at;
@@ -134,7 +134,7 @@ fn parameter_spans(s: &[u8], at: usize, n: usize) -> [Span; 16]
 // ---- each component
 
 fn scheme_of(scheme: SchemeAt) -> Scheme
-    ensures { λ r. ⌜ r ≡ schemeLaid (schemeSpan (schemeIs scheme)) ⌝ }
+    ensures { λ r. ⌜ r ≡ schemeLaid (schemeSpan (schemeOf scheme)) ⌝ }
 {
     match scheme {
         SchemeAt::Unset => Scheme::Unset,
@@ -164,7 +164,7 @@ fn authority_of(authority: AuthorityAt) -> Authority
 }
 
 fn opening_of(opening: OpeningAt) -> Opening
-    ensures { λ r. ⌜ ((bs : Bytes) → r ≡ openingLaid (openingSpans bs (openingIs opening))) ⌝ }
+    ensures { λ r. ⌜ ((bs : Bytes) → r ≡ openingLaid (openingSpans bs (openingOf opening))) ⌝ }
 {
     match opening {
         OpeningAt::Discard(k) => Opening::Discard(k),
@@ -188,8 +188,8 @@ fn host_labels(s: &[u8], host: HostAt) -> [Span; 8]
 }
 
 fn labels_of(s: &[u8], opening: OpeningAt) -> [Span; 8]
-    requires { ⌜ OpeningStands (now s) (openingIs opening) ⌝ }
-    ensures { λ r. ⌜ r ≡ spansLaid 8 (openingLabels (openingSpans (now (s .entry)) (openingIs opening))) ⌝ }
+    requires { ⌜ OpeningStands (now s) (openingOf opening) ⌝ }
+    ensures { λ r. ⌜ r ≡ spansLaid 8 (openingLabels (openingSpans (now (s .entry)) (openingOf opening))) ⌝ }
 {
     match opening {
         OpeningAt::Discard(_) => label_spans(s, 0, 0),
@@ -262,8 +262,8 @@ fn no_components() -> Components
 }
 
 fn components_of(s: &[u8], found: Found) -> Components
-    requires { ⌜ FoundStands limits (now s) (foundIs found) ⌝ }
-    ensures { λ r. ⌜ r ≡ componentsLaid (components (now (s .entry)) (foundIs found)) ⌝ }
+    requires { ⌜ FoundStands limits (now s) (foundOf found) ⌝ }
+    ensures { λ r. ⌜ r ≡ componentsLaid (components (now (s .entry)) (foundOf found)) ⌝ }
 {
     let opening = found.opening;
     let path = found.path;

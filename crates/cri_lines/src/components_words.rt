@@ -47,20 +47,7 @@ fn put_name(out: &mut Output, used: usize, group: Group) -> usize
     }
 }
 
-// The i-th span of a group; one outside of every slice where its array has none.
-fn span_of(c: Components, group: Group, i: usize) -> Span {
-    let nowhere = Span {
-        start: usize::MAX,
-        length: 1,
-    };
-    match group {
-        Group::Labels => if i < 8 { c.labels[i] } else { nowhere },
-        Group::Segments => if i < 32 { c.segments[i] } else { nowhere },
-        Group::Parameters => if i < 16 { c.parameters[i] } else { nowhere },
-    }
-}
-
-// The first texts of a group, at most 33, so that a count over its array shows.
+// The first texts of a group, at most 33, so that a count over its array shows: such a text is one outside of every slice.
 fn put_texts(
     out: &mut Output,
     used: usize,
@@ -72,12 +59,21 @@ fn put_texts(
     requires { ⌜ used ≤ 65536 ⌝ }
     ensures { λ r. ⌜ r ≤ 65536 ⌝ }
 {
+    let nowhere = Span {
+        start: usize::MAX,
+        length: 1,
+    };
     let n = least(count, 33);
     let mut at = used;
     let mut i = 0;
     while i < n {
         let named = put_name(out, at, group);
-        at = put_span(out, named, s, span_of(c, group, i));
+        let span = match group {
+            Group::Labels => if i < 8 { c.labels[i] } else { nowhere },
+            Group::Segments => if i < 32 { c.segments[i] } else { nowhere },
+            Group::Parameters => if i < 16 { c.parameters[i] } else { nowhere },
+        };
+        at = put_span(out, named, s, span);
         i += 1;
     }
     at

@@ -1,4 +1,4 @@
--- What the code's answers say, in the terms of the rules, and the last parts of two readers, which are functions of their own.
+-- What the code's values (`..Of`) and answers (`..Is`) say, in the terms of the rules, and the last parts of two readers, which are functions of their own.
 use Prim.Native.Nat.{ℕ, _-_}
 use mathlib.Core.Bool.{_||_}
 use mathlib.Core.Option.{Option, none, some}
@@ -50,6 +50,7 @@ runIs (RunV.Refused n place) = refused n place
 
 -- ---- path, query, fragment
 
+-- where a path, a query or a fragment stands
 abbrev pub slotOf : Slot → R.Slot
 slotOf SlotV.Unset = R.unset
 slotOf (SlotV.Set at n) = R.set at n
@@ -61,10 +62,12 @@ slotIs (SlotAtV.Refused n place) = refused n place
 
 -- ---- authority
 
+-- where an address or labels stand
 abbrev pub hostOf : HostAt → R.HostAt
 hostOf (HostAtV.Address at n) = R.addressAt at n
 hostOf (HostAtV.Labels at n) = R.labelsAt at n
 
+-- the port's number, if it is set
 abbrev pub portOf : Port → Option ℕ
 portOf PortV.Unset = none
 portOf (PortV.Is n) = some n
@@ -74,9 +77,11 @@ abbrev pub namesIs : Names → Res R.Names
 namesIs (NamesV.Are count port next) = ok (record { count = count; port = portOf port; next = next })
 namesIs (NamesV.Refused n place) = refused n place
 
+-- where an authority stands, and its port
 abbrev pub authorityOf : AuthorityAt → R.AuthorityAt
 authorityOf a = record { at = a .at; host = hostOf (a .host); port = portOf (a .port); next = a .next }
 
+-- an authority, or a refusal
 abbrev pub authorityIs : Authority → Res R.AuthorityAt
 authorityIs (AuthorityV.Is a) = ok (authorityOf a)
 authorityIs (AuthorityV.Refused n place) = refused n place
@@ -89,28 +94,32 @@ readHost bs start at items = do
 
 -- ---- the opening
 
-abbrev pub schemeIs : SchemeAt → R.SchemeAt
-schemeIs SchemeAtV.Unset = R.noScheme
-schemeIs (SchemeAtV.Number n) = R.numberAt n
-schemeIs (SchemeAtV.Name at n) = R.nameAt at n
+-- the scheme's number, or where its name stands
+abbrev pub schemeOf : SchemeAt → R.SchemeAt
+schemeOf SchemeAtV.Unset = R.noScheme
+schemeOf (SchemeAtV.Number n) = R.numberAt n
+schemeOf (SchemeAtV.Name at n) = R.nameAt at n
 
-abbrev pub openingIs : OpeningAt → R.OpeningAt
-openingIs (OpeningAtV.Discard k) = R.discardAt k
-openingIs OpeningAtV.DiscardAll = R.discardAllAt
-openingIs (OpeningAtV.Full s a) = R.fullAt (schemeIs s) (authorityOf a)
+-- a discard, or scheme and authority
+abbrev pub openingOf : OpeningAt → R.OpeningAt
+openingOf (OpeningAtV.Discard k) = R.discardAt k
+openingOf OpeningAtV.DiscardAll = R.discardAllAt
+openingOf (OpeningAtV.Full s a) = R.fullAt (schemeOf s) (authorityOf a)
 
 -- the opening, the position after it, and how many items are left
 abbrev pub openedIs : Opened → Res R.Opened
-openedIs (OpenedV.Is opening next left) = ok (record { opening = openingIs opening; next = next; left = left })
+openedIs (OpenedV.Is opening next left) = ok (record { opening = openingOf opening; next = next; left = left })
 openedIs (OpenedV.Refused n place) = refused n place
 
 -- ---- the whole
 
-abbrev pub foundIs : Found → R.Found
-foundIs f = record { opening = openingIs (f .opening); path = slotOf (f .path); query = slotOf (f .query); fragment = slotOf (f .fragment) }
+-- where everything stands
+abbrev pub foundOf : Found → R.Found
+foundOf f = record { opening = openingOf (f .opening); path = slotOf (f .path); query = slotOf (f .query); fragment = slotOf (f .fragment) }
 
+-- what was found, or a refusal
 abbrev pub answerIs : Answer → Res R.Found
-answerIs (AnswerV.Is f) = ok (foundIs f)
+answerIs (AnswerV.Is f) = ok (foundOf f)
 answerIs (AnswerV.Refused n place) = refused n place
 
 -- the last parts of `read`: the end

@@ -11,7 +11,7 @@ ghost use Rattle.rules.specs.Rules.{knownScheme};
 ghost use Rattle.rules.specs.Reader as R;
 ghost use Rattle.cbor.specs.Heads.{allows, accepted};
 ghost use Rattle.texts.specs.Code.{sortIs, stepIs};
-ghost use Rattle.reader.specs.Code.{headIs, runIs, slotIs, namesIs, schemeIs, authorityIs, readHost, openingIs, openedIs, foundIs, answerIs, readEnd, readRest, readItems};
+ghost use Rattle.reader.specs.Code.{headIs, runIs, slotIs, namesIs, schemeOf, authorityIs, readHost, openingOf, openedIs, foundOf, answerIs, readEnd, readRest, readItems};
 use cbor::Item;
 use cbor::Kinds;
 use texts::Sort;
@@ -506,7 +506,7 @@ fn known_scheme(n: u64) -> bool
 
 // A scheme needs a second item, the authority.
 fn after_scheme(s: &[u8], at: usize, count: usize, scheme: SchemeAt, next: usize) -> Opened
-    ensures { λ r. ⌜ openedIs r ≡ R.afterScheme (now (s .entry)) at count (schemeIs scheme) next ⌝ }
+    ensures { λ r. ⌜ openedIs r ≡ R.afterScheme (now (s .entry)) at count (schemeOf scheme) next ⌝ }
 {
     if count < 2 {
         return Opened::Refused(2, at);
@@ -611,7 +611,7 @@ fn less(a: usize, b: usize) -> usize
 
 // The end, after which nothing may stand.
 fn finish(s: &[u8], found: Found, next: usize) -> Answer
-    ensures { λ r. ⌜ answerIs r ≡ readEnd (now (s .entry)) (foundIs found) next ⌝ }
+    ensures { λ r. ⌜ answerIs r ≡ readEnd (now (s .entry)) (foundOf found) next ⌝ }
 {
     if next < s.len() {
         return Answer::Refused(7, next);
@@ -621,7 +621,7 @@ fn finish(s: &[u8], found: Found, next: usize) -> Answer
 
 // Path, query and fragment, of which so many items are left, and the end.
 fn rest_at(s: &[u8], opening: OpeningAt, at: usize, left: usize) -> Answer
-    ensures { λ r. ⌜ answerIs r ≡ readRest limits (now (s .entry)) (openingIs opening) at left ⌝ }
+    ensures { λ r. ⌜ answerIs r ≡ readRest limits (now (s .entry)) (openingOf opening) at left ⌝ }
 {
     match array_at(s, at, left, Sort::Segment, 0, 32) {
         SlotAt::Refused(k, place) => Answer::Refused(k, place),

@@ -5,10 +5,10 @@ use Rattle.cri_lines.proofs.components_words.put_texts.Statement.{state
 use Rattle.cri_lines.proofs.components_words.put_texts.Tie as tie
 
 abbrev Inv-loop : tie.InvT-loop
-Inv-loop out₀ used s c group count n at₀ i₀ out at i = (i ≤ n) × (at ≤ 65536)
+Inv-loop out₀ used s group count c nowhere n at₀ i₀ out at i = (i ≤ n) × (at ≤ 65536)
 
 abbrev μ-loop : tie.MeasureT-loop
-μ-loop out₀ used s c group count n at₀ i₀ out at i = n - i
+μ-loop out₀ used s group count c nowhere n at₀ i₀ out at i = n - i
 
 least-requires : tie.Need-least-requires Inv-loop μ-loop
 least-requires c κs = search needs
@@ -19,8 +19,32 @@ loop-holds c = search needs
 put-name-requires : tie.Need-put-name-requires Inv-loop μ-loop
 put-name-requires c κs = search needs
 
-span-of-requires : tie.Need-span-of-requires Inv-loop μ-loop
-span-of-requires c κs = search needs
+enum-told : tie.Need-enum-told Inv-loop μ-loop
+enum-told c = search needs
+
+mul-span : tie.Need-mul-span Inv-loop μ-loop
+mul-span c = search needs
+
+element-copy-out-span : tie.Need-element-copy-out-span Inv-loop μ-loop
+element-copy-out-span c = search needs
+
+enum-told-2 : tie.Need-enum-told-2 Inv-loop μ-loop
+enum-told-2 c = search needs
+
+mul-span-2 : tie.Need-mul-span-2 Inv-loop μ-loop
+mul-span-2 c = search needs
+
+element-copy-out-span-2 : tie.Need-element-copy-out-span-2 Inv-loop μ-loop
+element-copy-out-span-2 c = search needs
+
+enum-told-3 : tie.Need-enum-told-3 Inv-loop μ-loop
+enum-told-3 c = search needs
+
+mul-span-3 : tie.Need-mul-span-3 Inv-loop μ-loop
+mul-span-3 c = search needs
+
+element-copy-out-span-3 : tie.Need-element-copy-out-span-3 Inv-loop μ-loop
+element-copy-out-span-3 c = search needs
 
 put-span-requires : tie.Need-put-span-requires Inv-loop μ-loop
 put-span-requires c κs = search needs
@@ -46,7 +70,15 @@ put-texts-spec =
     least-requires
     loop-holds
     put-name-requires
-    span-of-requires
+    enum-told
+    mul-span
+    element-copy-out-span
+    enum-told-2
+    mul-span-2
+    element-copy-out-span-2
+    enum-told-3
+    mul-span-3
+    element-copy-out-span-3
     put-span-requires
     add-i
     loop-less
