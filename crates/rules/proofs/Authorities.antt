@@ -17,10 +17,10 @@ use Rattle.rules.specs.Rules.{label, nameRule}
 use Rattle.rules.specs.Reader.{endAt, spans, taken, contents, HostAt, addressAt, labelsAt, AuthorityAt, Names, readNothing, portBody, readPort, labelBody, readNames, addressHost, labelsHost, readAuthority}
 use Rattle.rules.specs.Encode.{textItem, arrayItem, portItems, hostItems, authorityItem}
 use Rattle.rules.specs.Valid.{If, Good, GoodAddress, GoodLabels, GoodHost, GoodAuthority}
-use Rattle.rules.proofs.Tools.{never, by-test, or-left, or-right, within-low, within-high, is-within, length-part, octets-part}
-use Rattle.rules.proofs.Steps.{Ok, ok!, ok-bind, ok-map, ok-if, ok-need, Yes, yes!, yes-bind, yes-map, yes-then, yes-else, yes-need, Stable, same!, stable-bind, stable-bind-ok, stable-if, stable-need}
+use Rattle.rules.proofs.Tools.{never, by-test, each-map, or-left, or-right, within-low, within-high, is-within, length-part, octets-part}
+use Rattle.rules.proofs.Steps.{Ok, ok!, ok-bind, ok-map, ok-if, ok-need, Yes, yes!, yes-bind, yes-map, yes-then, yes-else, yes-need, yes-ok, Stable, same!, stable-bind, stable-bind-ok, stable-if, stable-need}
 use Rattle.rules.proofs.Heads.{is-kind, Stands, ok-head, yes-head, head-spells, next-inside, Spelled, spelled, head-stable, head-ok}
-use Rattle.rules.proofs.Texts.{contentAt, TextAt, ok-textBody, TextWas, good-64, yes-textBody, spelled-text, textBody-stable, ok-content, yes-content, content-stable, item-spells, item-was, Items, length-contents, contents-more}
+use Rattle.rules.proofs.Texts.{contentAt, TextAt, ok-textBody, TextWas, FitText, good-64, yes-textBody, spelled-text, textBody-stable, ok-content, yes-content, content-stable, item-spells, item-was, Items, length-contents, contents-more}
 use Rattle.rules.proofs.Slots.{item-one}
 
 -- what positions say
@@ -204,7 +204,20 @@ ok-authority bs at sm =
     (λ y. ok-map (ok-labelsHost bs at (headAt bs at .next) (headAt bs at .value - 1) sm r′ (is-kind Text _ y)) (λ a i. authority-is bs at a sm r (is-kind Array _ (r .kind)) w i))
     (λ f. ok-map (ok-addressHost bs at (headAt bs at .next) (headAt bs at .value - 1) sm r′ (is-kind ByteString _ (or-left _ _ (r′ .kind) f))) (λ a i. authority-is bs at a sm r (is-kind Array _ (r .kind)) w i)))))
 
--- ---- an authority that was written is accepted
+-- ---- an authority that was written is accepted where it is good, and what is accepted is the authority
+
+-- a number that a head can carry, where it is set
+abbrev pub FitPort : Option ℕ → Type 0
+FitPort = If (λ p. p < 2 ^ 64)
+
+-- a length, or a count and lengths, that heads can carry
+abbrev pub FitHost : Host Bytes → Type 0
+FitHost (address x) = FitText x
+FitHost (labels ts) = (length ts ≤ 8) × Each FitText ts
+
+pub record FitAuthority (a : Authority Bytes) : Type 0 where
+  pub host : FitHost (a .host)
+  pub port : FitPort (a .port)
 
 pub record PortWas (o : Option ℕ) (bs rest : Bytes) (r : Names) : Type 0 where
   pub says : r .port ≡ o
@@ -215,24 +228,24 @@ pub first-item : (x : Bytes) (xs : List Bytes) (l rest : Bytes) → l ≡ concat
 unfolding concat
 first-item x xs l rest e = e ∙ append-assoc x (concat xs) rest
 
-spelled-port : (v : ℕ) (bs : Bytes) (at : ℕ) (rest : Bytes) → v ≤ 65535 → drop at bs ≡ concat (portItems (some v)) ++ rest → Spelled Number v bs at rest
+spelled-port : (v : ℕ) (bs : Bytes) (at : ℕ) (rest : Bytes) → v < 2 ^ 64 → drop at bs ≡ concat (portItems (some v)) ++ rest → Spelled Number v bs at rest
 unfolding portItems
-spelled-port v bs at rest g e = spelled Number v bs at rest (omega arith) (item-one (headBytes Number v) _ rest e)
+spelled-port v bs at rest f e = spelled Number v bs at rest f (item-one (headBytes Number v) _ rest e)
 
-yes-portBody : (v n : ℕ) (bs : Bytes) (at : ℕ) (rest : Bytes) → v ≤ 65535 → Spelled Number v bs at rest
-    → Yes (λ r. (r .count ≡ n) × PortWas (some v) bs rest r) (portBody bs at 0 n (headAt bs at))
+yes-portBody : {G : Type 0} (v n : ℕ) (bs : Bytes) (at : ℕ) (rest : Bytes) → (G → v ≤ 65535) → Spelled Number v bs at rest
+    → Yes G (λ r. (r .count ≡ n) × PortWas (some v) bs rest r) (portBody bs at 0 n (headAt bs at))
 unfolding portBody readNothing _>>=_
-yes-portBody v n bs at rest g w =
-    yes-need _ _ _ _ (subst (λ (x : ℕ). leb x 65535 ≡ true) (sym (w .value)) (le-leb v 65535 g))
-    (yes! (refl, record { says = ap some (w .value); after = w .rest }))
+yes-portBody v n bs at rest good w =
+    yes-need _ _ _ _ (λ g. subst (λ (x : ℕ). leb x 65535 ≡ true) (sym (w .value)) (le-leb v 65535 (good g)))
+    (λ t. yes! (refl, record { says = ap some (w .value); after = w .rest }))
 
-yes-port : (o : Option ℕ) (bs : Bytes) (at : ℕ) (rest : Bytes) → GoodPort o → drop at bs ≡ concat (portItems o) ++ rest
-    → Yes (λ r. PortWas o bs rest r) (readPort bs at (length (portItems o)))
+yes-port : {G : Type 0} (o : Option ℕ) (bs : Bytes) (at : ℕ) (rest : Bytes) → FitPort o → (G → GoodPort o) → drop at bs ≡ concat (portItems o) ++ rest
+    → Yes G (λ r. PortWas o bs rest r) (readPort bs at (length (portItems o)))
 unfolding readPort portItems concat codeOf
-yes-port none bs at rest g e = yes! (record { says = refl; after = e })
-yes-port (some v) bs at rest g e =
-    let w = spelled-port v bs at rest g e in
-    yes-head _ _ _ _ (w .stands (is Number) refl) (yes-map (yes-portBody v 0 bs at rest g w) (λ r p. p .1))
+yes-port none bs at rest f good e = yes! (record { says = refl; after = e })
+yes-port (some v) bs at rest f good e =
+    let w = spelled-port v bs at rest f e in
+    yes-head _ _ _ _ (w .stands (is Number) refl) (yes-map (yes-portBody v 0 bs at rest good w) (λ r p. p .1))
 
 pub record NamesWas (ts : List Bytes) (n : ℕ) (o : Option ℕ) (bs : Bytes) (at : ℕ) (rest : Bytes) (r : Names) : Type 0 where
   pub count : r .count ≡ n + length ts
@@ -240,31 +253,37 @@ pub record NamesWas (ts : List Bytes) (n : ℕ) (o : Option ℕ) (bs : Bytes) (a
   pub port : r .port ≡ o
   pub after : drop (r .next) bs ≡ rest
 
-label-64 : (t : Bytes) → Good label t → length t < 2 ^ 64
-label-64 t g = good-64 {s = label} (lit< tt) t g
-
-yes-labelBody : (n : ℕ) (t bs : Bytes) (at : ℕ) (rest : Bytes) → n < 8 → Spelled Text (length t) bs at (t ++ rest) → Good label t
-    → Yes (λ next. TextWas t bs at rest next) (labelBody n bs at (headAt bs at))
+yes-labelBody : {G : Type 0} (n : ℕ) (t bs : Bytes) (at : ℕ) (rest : Bytes) → Spelled Text (length t) bs at (t ++ rest) → (G → n < 8) → (G → Good label t)
+    → Yes G (λ next. TextWas t bs at rest next) (labelBody n bs at (headAt bs at))
 unfolding labelBody
-yes-labelBody n t bs at rest h w g = yes-need _ _ _ _ (lt-ltb _ _ h) (yes-textBody label t bs at rest w g)
+yes-labelBody n t bs at rest w few good = yes-need _ _ _ _ (λ g. lt-ltb _ _ (few g)) (λ a. yes-textBody label t bs at rest w good)
 
-yes-names : (ts : List Bytes) (n : ℕ) (o : Option ℕ) (bs : Bytes) (at : ℕ) (rest : Bytes) → n + length ts ≤ 8 → Each (Good label) ts → GoodPort o
+-- after n labels, these and a port
+record GoodNames (ts : List Bytes) (n : ℕ) (o : Option ℕ) : Type 0 where
+  pub count : n + length ts ≤ 8
+  pub each : Each (Good label) ts
+  pub port : GoodPort o
+
+next-names : (t : Bytes) (ts : List Bytes) (n : ℕ) (o : Option ℕ) → GoodNames (t ∷ ts) n o → GoodNames ts (suc n) o
+next-names t ts n o g = record { count = omega (arith, g .count); each = g .each .1; port = g .port }
+
+yes-names : {G : Type 0} (ts : List Bytes) (n : ℕ) (o : Option ℕ) (bs : Bytes) (at : ℕ) (rest : Bytes) → Each FitText ts → FitPort o → (G → GoodNames ts n o)
     → drop at bs ≡ concat (map textItem ts ++ portItems o) ++ rest
-    → Yes (λ r. NamesWas ts n o bs at rest r) (readNames bs at (length (map textItem ts ++ portItems o)) n)
+    → Yes G (λ r. NamesWas ts n o bs at rest r) (readNames bs at (length (map textItem ts ++ portItems o)) n)
 unfolding readNames contents spans concat portItems codeOf
-yes-names [] n none bs at rest l g p e = yes! (record { count = sym (add-zero n); says = refl; port = refl; after = e })
-yes-names [] n (some v) bs at rest l g p e =
+yes-names [] n none bs at rest f p good e = yes! (record { count = sym (add-zero n); says = refl; port = refl; after = e })
+yes-names [] n (some v) bs at rest f p good e =
     let w = spelled-port v bs at rest p e in
     yes-head _ _ _ _ (w .stands (λ k. is Text k || is Number k) refl)
     (yes-else _ _ _ (subst (λ (k : Kind). not (is Text k) ≡ true) (sym (w .kind)) refl)
-    (yes-map (yes-portBody v n bs at rest p w) (λ r q. record { count = q .0 ∙ sym (add-zero n); says = refl; port = q .1 .says; after = q .1 .after })))
-yes-names (t ∷ ts) n o bs at rest l g p e =
+    (yes-map (yes-portBody v n bs at rest (λ g. good g .port) w) (λ r q. record { count = q .0 ∙ sym (add-zero n); says = refl; port = q .1 .says; after = q .1 .after })))
+yes-names (t ∷ ts) n o bs at rest f p good e =
     let others : List Bytes = map textItem ts ++ portItems o in
-    let w = spelled-text t bs at (concat others ++ rest) (label-64 t (g .0)) (first-item (textItem t) others _ rest e) in
+    let w = spelled-text t bs at (concat others ++ rest) (f .0) (first-item (textItem t) others _ rest e) in
     yes-head _ _ _ _ (w .stands (λ k. is Text k || is Number k) refl)
     (yes-then _ _ _ (subst (λ (k : Kind). is Text k ≡ true) (sym (w .kind)) refl)
-    (yes-bind _ _ (yes-labelBody n t bs at (concat others ++ rest) (omega arith) w (g .0)) (λ mid x.
-    yes-map (yes-names ts (suc n) o bs mid rest (omega arith) (g .1) p (x .after)) (λ r y.
+    (yes-bind _ _ (yes-labelBody n t bs at (concat others ++ rest) w (λ g. omega (arith, good g .count)) (λ g. good g .each .0)) (λ mid x.
+    yes-map (yes-names ts (suc n) o bs mid rest (f .1) p (λ g. next-names t ts n o (good g)) (x .after)) (λ r y.
     record {
       count = omega (arith, y .count);
       says = ap₂ (λ (z : Bytes) (zs : List Bytes). z ∷ zs) (x .says) (ap (λ (m : ℕ). contents bs m (length ts)) (sym (x .ends)) ∙ y .says);
@@ -280,30 +299,33 @@ pub record AuthorityWas (a : Authority Bytes) (bs rest : Bytes) (r : AuthorityAt
 pub same-authority : {h h′ : Host Bytes} {o o′ : Option ℕ} → h ≡ h′ → o ≡ o′ → _≡_ {A = Authority Bytes} (record { host = h; port = o }) (record { host = h′; port = o′ })
 same-authority e e′ = λ i. record { host = e i; port = e′ i }
 
-yes-addressHost : (x : Bytes) (o : Option ℕ) (bs : Bytes) (start at left : ℕ) (rest : Bytes) → GoodAddress x → GoodPort o → left ≡ length (portItems o)
-    → Spelled ByteString (length x) bs at (x ++ (concat (portItems o) ++ rest))
-    → Yes (λ r. AuthorityWas (record { host = address x; port = o }) bs rest r) (addressHost bs start at left (headAt bs at))
+yes-addressHost : {G : Type 0} (x : Bytes) (o : Option ℕ) (bs : Bytes) (start at left : ℕ) (rest : Bytes) → FitPort o → (G → GoodAddress x) → (G → GoodPort o)
+    → left ≡ length (portItems o) → Spelled ByteString (length x) bs at (x ++ (concat (portItems o) ++ rest))
+    → Yes G (λ r. AuthorityWas (record { host = address x; port = o }) bs rest r) (addressHost bs start at left (headAt bs at))
 unfolding addressHost
-yes-addressHost x o bs start at left rest g p n w =
+yes-addressHost x o bs start at left rest p good port n w =
     let i = item-was ByteString x bs at (concat (portItems o) ++ rest) w in
-    yes-need _ _ _ _ (subst (λ (m : ℕ). (eqb m 4 || eqb m 16) ≡ true) (sym (w .value)) (g .size))
-    (yes-content _ _ _ _ (i .2)
-    (rw n (yes-bind _ _ (yes-port o bs (endAt bs at) rest p (i .1)) (λ r q.
+    yes-need _ _ _ _ (λ g. subst (λ (m : ℕ). (eqb m 4 || eqb m 16) ≡ true) (sym (w .value)) (good g .size))
+    (λ t. yes-content _ _ _ _ (i .2)
+    (rw n (yes-bind _ _ (yes-port o bs (endAt bs at) rest p port (i .1)) (λ r q.
     yes! (record { says = same-authority (ap address (i .0)) (q .says); after = q .after })))))
 
-yes-labelsHost : (t : Bytes) (ts : List Bytes) (o : Option ℕ) (bs : Bytes) (start at left : ℕ) (rest : Bytes) → GoodLabels (t ∷ ts) → GoodPort o
-    → left ≡ length (map textItem ts ++ portItems o)
+other-names : (t : Bytes) (ts : List Bytes) (o : Option ℕ) → GoodLabels (t ∷ ts) → GoodPort o → GoodNames ts 1 o
+other-names t ts o g p = record { count = omega (arith, within-high 1 8 (length (t ∷ ts)) (g .texts .count)); each = g .texts .each .1; port = p }
+
+yes-labelsHost : {G : Type 0} (t : Bytes) (ts : List Bytes) (o : Option ℕ) (bs : Bytes) (start at left : ℕ) (rest : Bytes) → Each FitText ts → FitPort o
+    → (G → GoodLabels (t ∷ ts)) → (G → GoodPort o) → left ≡ length (map textItem ts ++ portItems o)
     → Spelled Text (length t) bs at (t ++ (concat (map textItem ts ++ portItems o) ++ rest))
-    → Yes (λ r. AuthorityWas (record { host = labels (t ∷ ts); port = o }) bs rest r) (labelsHost bs start at left (headAt bs at))
+    → Yes G (λ r. AuthorityWas (record { host = labels (t ∷ ts); port = o }) bs rest r) (labelsHost bs start at left (headAt bs at))
 unfolding labelsHost contents spans
-yes-labelsHost t ts o bs start at left rest g p n w =
-    yes-bind _ _ (yes-labelBody 0 t bs at _ (lit< tt) w (g .texts .each .0)) (λ mid x.
-    rw n (yes-bind _ _ (yes-names ts 1 o bs mid rest (omega (arith, within-high 1 8 (length (t ∷ ts)) (g .texts .count))) (g .texts .each .1) p (x .after)) (λ r y.
+yes-labelsHost t ts o bs start at left rest f p good port n w =
+    yes-bind _ _ (yes-labelBody 0 t bs at _ w (λ g. lit< tt) (λ g. good g .texts .each .0)) (λ mid x.
+    rw n (yes-bind _ _ (yes-names ts 1 o bs mid rest f p (λ g. other-names t ts o (good g) (port g)) (x .after)) (λ r y.
     let c : r .count ≡ suc (length ts) = omega (arith, y .count) in
     let cs : contents bs at (r .count) ≡ t ∷ ts =
     ap (contents bs at) c ∙ ap₂ (λ (z : Bytes) (zs : List Bytes). z ∷ zs) (x .says) (ap (λ (m : ℕ). contents bs m (length ts)) (sym (x .ends)) ∙ y .says) in
-    yes-need _ _ _ _ (subst (λ (l : List Bytes). nameRule l ≡ true) (sym cs) (g .name))
-    (yes! (record { says = same-authority (ap labels cs) (y .port); after = y .after })))))
+    yes-need _ _ _ _ (λ g. subst (λ (l : List Bytes). nameRule l ≡ true) (sym cs) (good g .name))
+    (λ t. yes! (record { says = same-authority (ap labels cs) (y .port); after = y .after })))))
 
 pub spelled-array : (xs : List Bytes) (bs : Bytes) (at : ℕ) (rest : Bytes) → length xs < 2 ^ 64 → drop at bs ≡ arrayItem xs ++ rest → Spelled Array (length xs) bs at (concat xs ++ rest)
 unfolding arrayItem
@@ -314,53 +336,76 @@ unfolding portItems
 port-items none = omega arith
 port-items (some v) = omega arith
 
-pub address-size : (x : Bytes) → GoodAddress x → length x ≤ 16
+address-size : (x : Bytes) → GoodAddress x → length x ≤ 16
 address-size x g =
     by-test (λ b. (b || eqb (length x) 16) ≡ true → eqb (length x) 4 ≡ b → length x ≤ 16) (eqb (length x) 4)
     (λ e k f. omega (arith, eqb-true (length x) 4 f)) (λ e k f. omega (arith, eqb-true (length x) 16 k)) (g .size) refl
 
-pub host-count : (h : Host Bytes) → GoodHost h → (1 ≤ length (hostItems h)) × (length (hostItems h) ≤ 8)
+host-some : (h : Host Bytes) → GoodHost h → 1 ≤ length (hostItems h)
 unfolding hostItems
-host-count (address x) g = (lit≤ tt, lit≤ tt)
-host-count (labels ts) g =
-    (omega (arith, length-map ts textItem, within-low 1 8 (length ts) (g .texts .count)), omega (arith, length-map ts textItem, within-high 1 8 (length ts) (g .texts .count)))
+host-some (address x) g = lit≤ tt
+host-some (labels ts) g = omega (arith, length-map ts textItem, within-low 1 8 (length ts) (g .texts .count))
 
-pub items-count : (a : Authority Bytes) → GoodAuthority a
-    → (1 ≤ length (hostItems (a .host) ++ portItems (a .port))) × (length (hostItems (a .host) ++ portItems (a .port)) ≤ 9)
-items-count a g =
-    let n = length-append (hostItems (a .host)) (portItems (a .port)) in
-    let c = host-count (a .host) (g .host) in
-    let p = port-items (a .port) in
-    (omega (arith, n, c .0), omega (arith, n, c .1, p))
+host-most : (h : Host Bytes) → FitHost h → length (hostItems h) ≤ 8
+unfolding hostItems
+host-most (address x) f = lit≤ tt
+host-most (labels ts) f = omega (arith, length-map ts textItem, f .0)
 
-yes-inside : (h : Host Bytes) (o : Option ℕ) (bs : Bytes) (start at left : ℕ) (rest : Bytes) → GoodHost h → GoodPort o
-    → left ≡ length (hostItems h ++ portItems o) - 1 → drop at bs ≡ concat (hostItems h ++ portItems o) ++ rest
-    → Yes (λ r. AuthorityWas (record { host = h; port = o }) bs rest r)
+items-some : (a : Authority Bytes) → GoodAuthority a → 1 ≤ length (hostItems (a .host) ++ portItems (a .port))
+items-some a g = omega (arith, length-append (hostItems (a .host)) (portItems (a .port)), host-some (a .host) (g .host))
+
+pub items-most : (a : Authority Bytes) → FitAuthority a → length (hostItems (a .host) ++ portItems (a .port)) ≤ 9
+items-most a f = omega (arith, length-append (hostItems (a .host)) (portItems (a .port)), host-most (a .host) (f .host), port-items (a .port))
+
+-- no authority begins with a port
+no-host : (v : ℕ) (bs : Bytes) (at : ℕ) (rest : Bytes) → Spelled Number v bs at rest → Stands (λ k. is ByteString k || is Text k) bs at → ⊥
+unfolding codeOf headAt
+no-host v bs at rest w r = never (subst (λ (k : Kind). (is ByteString k || is Text k) ≡ true) (w .kind) (r .kind))
+
+yes-inside : {G : Type 0} (h : Host Bytes) (o : Option ℕ) (bs : Bytes) (start at left : ℕ) (rest : Bytes) → FitHost h → FitPort o → (G → GoodHost h) → (G → GoodPort o)
+    → 1 ≤ length (hostItems h ++ portItems o) → left ≡ length (hostItems h ++ portItems o) - 1 → drop at bs ≡ concat (hostItems h ++ portItems o) ++ rest
+    → Yes G (λ r. AuthorityWas (record { host = h; port = o }) bs rest r)
     (readHead (λ k. is ByteString k || is Text k) bs at >>= (λ f. if is Text (f .kind) then labelsHost bs start at left f else addressHost bs start at left f))
-unfolding hostItems codeOf
-yes-inside (address x) o bs start at left rest g p n e =
-    let w = spelled ByteString (length x) bs at (x ++ (concat (portItems o) ++ rest)) (omega (arith, address-size x g))
+unfolding hostItems codeOf portItems
+yes-inside (address x) o bs start at left rest f p good port first n e =
+    let w = spelled ByteString (length x) bs at (x ++ (concat (portItems o) ++ rest)) f
     (first-item (headBytes ByteString (length x) ++ x) (portItems o) _ rest e ∙ append-assoc (headBytes ByteString (length x)) x (concat (portItems o) ++ rest)) in
     yes-head _ _ _ _ (w .stands (λ k. is ByteString k || is Text k) refl)
-    (yes-else _ _ _ (subst (λ (k : Kind). not (is Text k) ≡ true) (sym (w .kind)) refl) (yes-addressHost x o bs start at left rest g p (omega (arith, n)) w))
-yes-inside (labels []) o bs start at left rest g p n e = never (g .texts .count)
-yes-inside (labels (t ∷ ts)) o bs start at left rest g p n e =
+    (yes-else _ _ _ (subst (λ (k : Kind). not (is Text k) ≡ true) (sym (w .kind)) refl) (yes-addressHost x o bs start at left rest p good port (omega (arith, n)) w))
+yes-inside (labels []) none bs start at left rest f p good port first n e = absurd (omega arith)
+yes-inside (labels []) (some v) bs start at left rest f p good port first n e =
+    yes-ok (λ g. never (good g .texts .count)) (ok-head _ _ _ _ (λ r. absurd (no-host v bs at rest (spelled-port v bs at rest p e) r)))
+yes-inside (labels (t ∷ ts)) o bs start at left rest f p good port first n e =
     let others : List Bytes = map textItem ts ++ portItems o in
-    let w = spelled-text t bs at (concat others ++ rest) (label-64 t (g .texts .each .0)) (first-item (textItem t) others _ rest e) in
+    let w = spelled-text t bs at (concat others ++ rest) (f .1 .0) (first-item (textItem t) others _ rest e) in
     yes-head _ _ _ _ (w .stands (λ k. is ByteString k || is Text k) refl)
-    (yes-then _ _ _ (subst (λ (k : Kind). is Text k ≡ true) (sym (w .kind)) refl) (yes-labelsHost t ts o bs start at left rest g p (omega (arith, n)) w))
+    (yes-then _ _ _ (subst (λ (k : Kind). is Text k ≡ true) (sym (w .kind)) refl) (yes-labelsHost t ts o bs start at left rest (f .1 .1) p good port (omega (arith, n)) w))
 
-pub yes-authority : (a : Authority Bytes) (bs : Bytes) (at : ℕ) (rest : Bytes) → GoodAuthority a → drop at bs ≡ authorityItem a ++ rest
-    → Yes (λ r. AuthorityWas a bs rest r) (readAuthority bs at)
+pub yes-authority : {G : Type 0} (a : Authority Bytes) (bs : Bytes) (at : ℕ) (rest : Bytes) → FitAuthority a → (G → GoodAuthority a) → drop at bs ≡ authorityItem a ++ rest
+    → Yes G (λ r. AuthorityWas a bs rest r) (readAuthority bs at)
 unfolding readAuthority authorityItem codeOf
-yes-authority a bs at rest g e =
+yes-authority a bs at rest f good e =
     let items : List Bytes = hostItems (a .host) ++ portItems (a .port) in
-    let c = items-count a g in
-    let w = spelled-array items bs at rest (omega (arith, c .1)) e in
+    let most : length items ≤ 9 = items-most a f in
+    let w = spelled-array items bs at rest (omega arith) e in
     let v : ℕ = headAt bs at .value in
     yes-head _ _ _ _ (w .stands (is Array) refl)
-    (yes-need _ _ _ _ (is-within 1 9 v (omega (arith, c .0, w .value)) (omega (arith, c .1, w .value)))
-    (yes-inside (a .host) (a .port) bs at (headAt bs at .next) (headAt bs at .value - 1) rest (g .host) (g .port) (ap (λ (v : ℕ). v - 1) (w .value)) (w .rest)))
+    (yes-need _ _ _ _ (λ g. is-within 1 9 v (omega (arith, items-some a (good g), w .value)) (omega (arith, w .value)))
+    (λ t. yes-inside (a .host) (a .port) bs at (headAt bs at .next) (headAt bs at .value - 1) rest (f .host) (f .port) (λ g. good g .host) (λ g. good g .port)
+    (omega (arith, within-low 1 9 v t, w .value)) (ap (λ (v : ℕ). v - 1) (w .value)) (w .rest)))
+
+-- a good authority fits
+
+fit-host : (h : Host Bytes) → GoodHost h → FitHost h
+fit-host (address x) g = omega (arith, address-size x g)
+fit-host (labels ts) g = (within-high 1 8 (length ts) (g .texts .count), each-map (good-64 {s = label} (lit< tt)) ts (g .texts .each))
+
+fit-port : (o : Option ℕ) → GoodPort o → FitPort o
+fit-port none g = tt
+fit-port (some v) g = omega arith
+
+pub fit-authority : (a : Authority Bytes) → GoodAuthority a → FitAuthority a
+fit-authority a g = record { host = fit-host (a .host) (g .host); port = fit-port (a .port) (g .port) }
 
 -- ---- more bytes at the end
 

@@ -123,17 +123,17 @@ head-ok allowed bs at =
     ok-need _ _ _ _ (λ a. ok-need _ _ _ _ (λ b. ok-need _ _ _ _ (λ c. ok-need _ _ _ _ (λ d. ok-need _ _ _ _ (λ e.
     ok! (refl, record { kind = b; inside = leb-true _ _ d; short = eqb-true _ _ e; info = ltb-true _ _ c }))))))
 
-head-yes : (allowed : Kind → Bool) (bs : Bytes) (at : ℕ) → Stands allowed bs at → Yes (λ h. h ≡ headAt bs at) (readHead allowed bs at)
+head-yes : {G : Type 0} (allowed : Kind → Bool) (bs : Bytes) (at : ℕ) → Stands allowed bs at → Yes G (λ h. h ≡ headAt bs at) (readHead allowed bs at)
 unfolding readHead
 head-yes allowed bs at r =
-    yes-need _ _ _ _ (lt-ltb at (length bs) (omega (arith, r .inside))) (yes-need _ _ _ _ (r .kind) (yes-need _ _ _ _ (lt-ltb _ _ (r .info))
-    (yes-need _ _ _ _ (le-leb _ _ (r .inside)) (yes-need _ _ _ _ (eq-eqb _ _ (r .short)) (yes! refl)))))
+    yes-need _ _ _ _ (λ g. lt-ltb at (length bs) (omega (arith, r .inside))) (λ t. yes-need _ _ _ _ (λ g. r .kind) (λ t. yes-need _ _ _ _ (λ g. lt-ltb _ _ (r .info))
+    (λ t. yes-need _ _ _ _ (λ g. le-leb _ _ (r .inside)) (λ t. yes-need _ _ _ _ (λ g. eq-eqb _ _ (r .short)) (λ t. yes! refl)))))
 
 module _ {B : Type 0} {Q : B → Type 0} (allowed : Kind → Bool) (bs : Bytes) (at : ℕ) (f : Head → Res B) where
   pub ok-head : (Stands allowed bs at → Ok Q (f (headAt bs at))) → Ok Q (readHead allowed bs at >>= f)
   ok-head g = ok-bind _ _ (head-ok allowed bs at) (λ h r. rw (r .0) (g (r .1)))
 
-  pub yes-head : Stands allowed bs at → Yes Q (f (headAt bs at)) → Yes Q (readHead allowed bs at >>= f)
+  pub yes-head : {G : Type 0} → Stands allowed bs at → Yes G Q (f (headAt bs at)) → Yes G Q (readHead allowed bs at >>= f)
   yes-head r g = yes-bind _ _ (head-yes allowed bs at r) (λ h e. rw e g)
 
 pub next-inside : {allowed : Kind → Bool} (bs : Bytes) (at : ℕ) → Stands allowed bs at → headAt bs at .next ≤ length bs

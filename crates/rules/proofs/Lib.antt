@@ -7,6 +7,8 @@ pub mod Authorities
 pub mod Openings
 pub mod Reading
 pub mod Standing
+pub mod Numbers
+pub mod RoundTrips
 pub mod Absolutes
 pub mod Utf8Bytes
 pub mod Encoding

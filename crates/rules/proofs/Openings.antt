@@ -1,5 +1,5 @@
 -- The laws of the opening.
-use Prim.Native.Nat.{ℕ, zero, suc, _-_, _≤_, _<_}
+use Prim.Native.Nat.{ℕ, zero, suc, _-_, _^_, _≤_, _<_}
 use native.Mathlib.Omega.{arith}
 use mathlib.Core.Path.{_≡_, refl, sym, ap, ap₂, _∙_, subst}
 use mathlib.Core.Bool.{Bool, true, false, not, _&&_, _||_}
@@ -10,17 +10,17 @@ use lib.Dec.{leb, ltb, eqb, lit≤, lit<}
 use borrow.Author.Tests.{leb-true, le-leb, ltb-true, eqb-true, ne-eqb}
 use Rattle.rules.specs.Bytes.{Bytes, Octets, all, any, concat, bigEndian}
 use Rattle.rules.specs.Model.{Scheme, number, name, Authority, Opening, discard, discardAll, full}
-use Rattle.rules.specs.Head.{Kind, Number, Negative, ByteString, Text, Array, True, Null, Other, codeOf, Head, kindAt, headAt, headBytes, majorOf, shortest, width}
+use Rattle.rules.specs.Head.{Kind, Number, Negative, ByteString, Text, Array, True, Null, Other, codeOf, is, Head, kindAt, headAt, headBytes, majorOf, shortest, width}
 use Rattle.rules.specs.Rules.{schemeName, SchemeEntry, schemes, knownScheme}
-use Rattle.rules.specs.Reader.{opens, taken, SchemeAt, noScheme, numberAt, nameAt, OpeningAt, discardAt, discardAllAt, fullAt, Opened, afterScheme, openingBody, readOpening}
-use Rattle.rules.specs.Encode.{authorityItem, schemeItem, orNull, trueItem, withOpening, discardAlone}
+use Rattle.rules.specs.Reader.{opens, taken, SchemeAt, noScheme, numberAt, nameAt, OpeningAt, discardAt, discardAllAt, fullAt, Opened, readAuthority, afterScheme, openingBody, readOpening}
+use Rattle.rules.specs.Encode.{authorityItem, schemeItem, orNull, nullItem, trueItem, withOpening, discardAlone}
 use Rattle.rules.specs.Valid.{If, GoodAuthority, GoodScheme, GoodOpening}
 use Rattle.rules.proofs.Tools.{never, by-test, and-left, and-right}
-use Rattle.rules.proofs.Steps.{Ok, no!, ok!, ok-bind, ok-need, Yes, yes!, yes-bind, yes-need, Stable, same!, stable-bind, stable-need}
+use Rattle.rules.proofs.Steps.{Ok, no!, ok!, ok-bind, ok-need, Yes, yes!, yes-bind, yes-need, yes-ok, Stable, same!, stable-bind, stable-need}
 use Rattle.rules.proofs.Heads.{small-value, Stands, ok-head, yes-head, head-spells, next-inside, Spelled, spelled, head-stable, Lead, lead}
-use Rattle.rules.proofs.Texts.{ok-textBody, good-64, yes-textBody, spelled-text, textBody-stable}
+use Rattle.rules.proofs.Texts.{ok-textBody, FitText, good-64, yes-textBody, spelled-text, textBody-stable}
 use Rattle.rules.proofs.Slots.{null-spells, spelled-null, one-item, item-one}
-use Rattle.rules.proofs.Authorities.{saidAuthority, ok-authority, yes-authority, authority-stable, cons-spells, first-item}
+use Rattle.rules.proofs.Authorities.{saidAuthority, ok-authority, FitAuthority, yes-authority, fit-authority, authority-stable, cons-spells, first-item}
 
 -- what positions say
 abbrev pub saidScheme : Bytes → SchemeAt → Option (Scheme Bytes)
@@ -33,20 +33,23 @@ saidOpening bs (discardAt k) = discard k
 saidOpening bs discardAllAt = discardAll
 saidOpening bs (fullAt s a) = full (saidScheme bs s) (some (saidAuthority bs a))
 
--- an opening, where the array has so many items, of which so many are left after the opening
+-- an opening, where the array has so many items, of which so many are left after the opening; the last two are never accepted
 pub data Opens : ℕ → Opening Bytes → ℕ → Type 0 where
   empty : Opens 0 (discard 0) 0
   alone : {k : ℕ} → Opens 1 (discard (suc k)) 0
   before : {k left : ℕ} → left ≤ 2 → Opens (suc (suc left)) (discard k) (suc left)
   all! : {left : ℕ} → left ≤ 3 → Opens (suc left) discardAll left
   full! : {s : Option (Scheme Bytes)} {a : Authority Bytes} {left : ℕ} → left ≤ 3 → Opens (suc (suc left)) (full s (some a)) left
+  lone : {s : Option (Scheme Bytes)} → Opens 1 (full s none) 0
+  missing : {s : Option (Scheme Bytes)} {left : ℕ} → left ≤ 2 → Opens (suc (suc (suc left))) (full s none) (suc left)
 
 -- the items of the opening, in an array of so many
 abbrev pub openItems : ℕ → Opening Bytes → List Bytes
 openItems zero o = []
 openItems (suc n) (discard k) = headBytes Number k ∷ []
 openItems (suc n) discardAll = trueItem ∷ []
-openItems (suc n) (full s none) = []
+openItems (suc zero) (full s none) = orNull schemeItem s ∷ []
+openItems (suc (suc n)) (full s none) = orNull schemeItem s ∷ nullItem ∷ []
 openItems (suc n) (full s (some a)) = orNull schemeItem s ∷ authorityItem a ∷ []
 
 pub with-items : (n left : ℕ) (o : Opening Bytes) (xs : List Bytes) → Opens n o left → length xs ≡ left → (withOpening o xs ≡ openItems n o ++ xs) × (length (withOpening o xs) ≡ n)
@@ -56,11 +59,15 @@ with-items n left o [] alone e = (refl, refl)
 with-items n left o [] (before h) e = absurd (omega arith)
 with-items n left o [] (all! h) e = (refl, omega arith)
 with-items n left o [] (full! h) e = (refl, omega arith)
+with-items n left o [] lone e = (refl, refl)
+with-items n left o [] (missing h) e = absurd (omega arith)
 with-items n left o (x ∷ xs) empty e = absurd (omega arith)
 with-items n left o (x ∷ xs) alone e = absurd (omega arith)
 with-items n left o (x ∷ xs) (before h) e = (refl, omega arith)
 with-items n left o (x ∷ xs) (all! h) e = (refl, omega arith)
 with-items n left o (x ∷ xs) (full! h) e = (refl, omega arith)
+with-items n left o (x ∷ xs) lone e = absurd (omega arith)
+with-items n left o (x ∷ xs) (missing h) e = (refl, omega arith)
 
 -- ---- an opening that is accepted
 
@@ -132,7 +139,17 @@ unfolding readOpening concat headAt
 ok-opening bs at zero sm m = ok! (record { spells = refl; opens = empty; good = lit≤ tt; inside = λ h. h })
 ok-opening bs at (suc n) sm m = ok-head _ _ _ _ (λ r. ok-openingBody (kindAt bs at) bs at n sm (omega arith) r refl)
 
--- ---- an opening that was written is accepted
+-- ---- an opening that was written is accepted where it is good, and what is accepted is the opening
+
+-- numbers, lengths and counts that heads can carry
+abbrev pub FitScheme : Scheme Bytes → Type 0
+FitScheme (number n) = n < 2 ^ 64
+FitScheme (name t) = FitText t
+
+abbrev pub FitOpening : Opening Bytes → Type 0
+FitOpening (discard k) = k < 2 ^ 64
+FitOpening discardAll = Unit {0}
+FitOpening (full s a) = If FitScheme s × If FitAuthority a
 
 pub record OpenedWas (o : Opening Bytes) (n : ℕ) (bs rest : Bytes) (r : Opened) : Type 0 where
   pub says : saidOpening bs (r .opening) ≡ o
@@ -154,30 +171,43 @@ rest-left : (k n left : ℕ) → Opens (suc n) (discard k) left → suc n - 1 �
 rest-left k n left alone = refl
 rest-left k n left (before h) = omega arith
 
-yes-number : (k n left : ℕ) (bs : Bytes) (at : ℕ) (rest : Bytes) → k ≤ 127 → Opens (suc n) (discard k) left → Spelled Number k bs at rest
-    → Yes (λ r. OpenedWas (discard k) left bs rest r) (openingBody bs at (suc n) (headAt bs at) Number)
+yes-number : {G : Type 0} (k n left : ℕ) (bs : Bytes) (at : ℕ) (rest : Bytes) → (G → k ≤ 127) → Opens (suc n) (discard k) left → Spelled Number k bs at rest
+    → Yes G (λ r. OpenedWas (discard k) left bs rest r) (openingBody bs at (suc n) (headAt bs at) Number)
 unfolding openingBody
-yes-number k n left bs at rest g o w =
-    yes-need _ _ _ _ (subst (λ (v : ℕ). leb v 127 ≡ true) (sym (w .value)) (le-leb k 127 g))
-    (yes-need _ _ _ _ (few k n left o)
-    (yes-need _ _ _ _ (subst (λ (v : ℕ). not (eqb (suc n) 1 && eqb v 0) ≡ true) (sym (w .value)) (not-lone k n left o))
-    (yes! (record { says = ap discard (w .value); left = rest-left k n left o; after = w .rest }))))
+yes-number k n left bs at rest good o w =
+    yes-need _ _ _ _ (λ g. subst (λ (v : ℕ). leb v 127 ≡ true) (sym (w .value)) (le-leb k 127 (good g)))
+    (λ a. yes-need _ _ _ _ (λ g. few k n left o)
+    (λ b. yes-need _ _ _ _ (λ g. subst (λ (v : ℕ). not (eqb (suc n) 1 && eqb v 0) ≡ true) (sym (w .value)) (not-lone k n left o))
+    (λ c. yes! (record { says = ap discard (w .value); left = rest-left k n left o; after = w .rest }))))
 
-yes-afterScheme : (o : Option (Scheme Bytes)) (a : Authority Bytes) (left : ℕ) (bs : Bytes) (at : ℕ) (s : SchemeAt) (next : ℕ) (rest : Bytes) → GoodAuthority a
-    → saidScheme bs s ≡ o → drop next bs ≡ authorityItem a ++ rest
-    → Yes (λ r. OpenedWas (full o (some a)) left bs rest r) (afterScheme bs at (suc (suc left)) s next)
+-- after a scheme, an authority that was written
+yes-afterScheme : {G : Type 0} (o : Option (Scheme Bytes)) (a : Authority Bytes) (left : ℕ) (bs : Bytes) (at : ℕ) (rest : Bytes) → FitAuthority a → (G → GoodAuthority a)
+    → (s : SchemeAt) (next : ℕ) → saidScheme bs s ≡ o → drop next bs ≡ authorityItem a ++ rest
+    → Yes G (λ r. OpenedWas (full o (some a)) left bs rest r) (afterScheme bs at (suc (suc left)) s next)
 unfolding afterScheme
-yes-afterScheme o a left bs at s next rest g es e =
-    yes-need _ _ _ _ (le-leb 2 (suc (suc left)) (omega arith))
-    (yes-bind _ _ (yes-authority a bs next rest g e) (λ r q.
+yes-afterScheme o a left bs at rest f good s next es e =
+    yes-need _ _ _ _ (λ g. le-leb 2 (suc (suc left)) (omega arith))
+    (λ t. yes-bind _ _ (yes-authority a bs next rest f good e) (λ r q.
     yes! (record { says = ap₂ full es (ap some (q .says)); left = omega arith; after = q .after })))
 
--- an opening item of this kind was written
-yes-kind : {P : Opened → Type 0} (k : Kind) (v : ℕ) (bs : Bytes) (at n : ℕ) (rest : Bytes) → opens k ≡ true → Spelled k v bs at rest
-    → Yes P (openingBody bs at (suc n) (headAt bs at) k) → Yes P (readOpening bs at (suc n))
+-- a scheme that is the only item is refused
+no-second : {P : Opened → Type 0} (bs : Bytes) (at : ℕ) (s : SchemeAt) (next : ℕ) → Ok P (afterScheme bs at 1 s next)
+unfolding afterScheme
+no-second bs at s next = ok-need _ _ _ _ (λ t. never t)
+
+-- and so is null in the authority's place
+no-authority : {P : Opened → Type 0} (bs : Bytes) (at count : ℕ) (s : SchemeAt) (next : ℕ) (rest : Bytes) → drop next bs ≡ nullItem ++ rest → Ok P (afterScheme bs at count s next)
+unfolding afterScheme readAuthority codeOf headAt
+no-authority bs at count s next rest e =
+    ok-need _ _ _ _ (λ t. ok-bind {P = λ a. ⊥} _ _ (ok-head _ _ _ _ (λ r. never (subst (λ (k : Kind). is Array k ≡ true) (spelled-null bs next rest e .kind) (r .kind))))
+    (λ a b. absurd b))
+
+-- an opening item of this kind that was written
+yes-kind : {G : Type 0} {P : Opened → Type 0} (k : Kind) (v : ℕ) (bs : Bytes) (at n : ℕ) (rest : Bytes) → opens k ≡ true → Spelled k v bs at rest
+    → Yes G P (openingBody bs at (suc n) (headAt bs at) k) → Yes G P (readOpening bs at (suc n))
 unfolding readOpening
-yes-kind {P} k v bs at n rest t w y =
-    yes-head _ _ _ _ (w .stands opens t) (subst (λ (x : Kind). Yes P (openingBody bs at (suc n) (headAt bs at) x)) (sym (w .kind)) y)
+yes-kind {G} {P} k v bs at n rest t w y =
+    yes-head _ _ _ _ (w .stands opens t) (subst (λ (x : Kind). Yes G P (openingBody bs at (suc n) (headAt bs at) x)) (sym (w .kind)) y)
 
 -- a fact of each number of the table is a fact of each known scheme
 pub of-schemes : (p : ℕ → Bool) (es : List SchemeEntry) → all (λ (e : SchemeEntry). p (e .number)) es ≡ true
@@ -188,48 +218,72 @@ of-schemes p (e ∷ es) a n k =
     by-test (λ t. (t || any (λ (e : SchemeEntry). eqb n (e .number)) es) ≡ true → p n ≡ true) (eqb n (e .number))
     (λ d k. rw (eqb-true n (e .number) d) (and-left (p (e .number)) _ a)) (λ d k. of-schemes p es (and-right (p (e .number)) _ a) n k) k
 
-pub known-below : (n : ℕ) → knownScheme n ≡ true → n < 256
+known-below : (n : ℕ) → knownScheme n ≡ true → n < 256
 unfolding knownScheme schemes all
 known-below n g = ltb-true n 256 (of-schemes (λ n. ltb n 256) schemes refl n g)
 
-yes-scheme : (o : Option (Scheme Bytes)) (a : Authority Bytes) (left : ℕ) (bs : Bytes) (at : ℕ) (rest : Bytes) → If GoodScheme o → GoodAuthority a
-    → drop at bs ≡ orNull schemeItem o ++ (authorityItem a ++ rest)
-    → Yes (λ r. OpenedWas (full o (some a)) left bs rest r) (readOpening bs at (suc (suc left)))
+-- a scheme that was written, before what is accepted after it
+yes-scheme : {G : Type 0} {P : Opened → Type 0} (o : Option (Scheme Bytes)) (bs : Bytes) (at n : ℕ) (rest : Bytes) → If FitScheme o → (G → If GoodScheme o)
+    → drop at bs ≡ orNull schemeItem o ++ rest
+    → ((s : SchemeAt) (next : ℕ) → saidScheme bs s ≡ o → drop next bs ≡ rest → Yes G P (afterScheme bs at (suc n) s next))
+    → Yes G P (readOpening bs at (suc n))
 unfolding orNull schemeItem openingBody codeOf
-yes-scheme none a left bs at rest g ga e =
-    let w = spelled-null bs at (authorityItem a ++ rest) e in
-    yes-kind Null 22 bs at (suc left) _ refl w (yes-afterScheme none a left bs at noScheme (headAt bs at .next) rest ga refl (w .rest))
-yes-scheme (some (number n)) a left bs at rest g ga e =
-    let w = spelled Negative n bs at (authorityItem a ++ rest) (omega (arith, known-below n g)) e in
-    yes-kind Negative n bs at (suc left) _ refl w
-    (yes-need _ _ _ _ (subst (λ (v : ℕ). knownScheme v ≡ true) (sym (w .value)) g)
-    (yes-afterScheme (some (number n)) a left bs at (numberAt (headAt bs at .value)) (headAt bs at .next) rest ga (ap (λ (v : ℕ). some (number v)) (w .value)) (w .rest)))
-yes-scheme (some (name t)) a left bs at rest g ga e =
-    let w = spelled-text t bs at (authorityItem a ++ rest) (good-64 {s = schemeName} (lit< tt) t g) e in
-    yes-kind Text (length t) bs at (suc left) _ refl w
-    (yes-bind _ _ (yes-textBody schemeName t bs at (authorityItem a ++ rest) w g) (λ next x.
-    yes-afterScheme (some (name t)) a left bs at (nameAt (headAt bs at .next) (headAt bs at .value)) next rest ga (ap (λ (z : Bytes). some (name z)) (x .says)) (x .after)))
+yes-scheme none bs at n rest f good e y =
+    let w = spelled-null bs at rest e in
+    yes-kind Null 22 bs at n _ refl w (y noScheme (headAt bs at .next) refl (w .rest))
+yes-scheme (some (number v)) bs at n rest f good e y =
+    let w = spelled Negative v bs at rest f e in
+    yes-kind Negative v bs at n _ refl w
+    (yes-need _ _ _ _ (λ g. subst (λ (v : ℕ). knownScheme v ≡ true) (sym (w .value)) (good g))
+    (λ t. y (numberAt (headAt bs at .value)) (headAt bs at .next) (ap (λ (v : ℕ). some (number v)) (w .value)) (w .rest)))
+yes-scheme (some (name t)) bs at n rest f good e y =
+    let w = spelled-text t bs at rest f e in
+    yes-kind Text (length t) bs at n _ refl w
+    (yes-bind _ _ (yes-textBody schemeName t bs at rest w good) (λ next x.
+    y (nameAt (headAt bs at .next) (headAt bs at .value)) next (ap (λ (z : Bytes). some (name z)) (x .says)) (x .after)))
 
 spelled-true : (bs : Bytes) (at : ℕ) (rest : Bytes) → drop at bs ≡ trueItem ++ rest → Spelled True 21 bs at rest
 spelled-true bs at rest e = spelled True 21 bs at rest refl (e ∙ ap (λ (x : Bytes). x ++ rest) (sym true-bytes))
 
-pub yes-opening : (n left : ℕ) (o : Opening Bytes) (bs : Bytes) (at : ℕ) (rest : Bytes) → Opens n o left → GoodOpening o → drop at bs ≡ concat (openItems n o) ++ rest
-    → Yes (λ r. OpenedWas o left bs rest r) (readOpening bs at n)
+pub yes-opening : {G : Type 0} (n left : ℕ) (o : Opening Bytes) (bs : Bytes) (at : ℕ) (rest : Bytes) → Opens n o left → FitOpening o → (G → GoodOpening o)
+    → drop at bs ≡ concat (openItems n o) ++ rest → Yes G (λ r. OpenedWas o left bs rest r) (readOpening bs at n)
 unfolding readOpening codeOf openingBody concat
-yes-opening n left o bs at rest empty g e = yes! (record { says = refl; left = refl; after = e })
-yes-opening n left o bs at rest (alone {k = k}) g e =
-    let w = spelled Number (suc k) bs at rest (omega arith) (item-one (headBytes Number (suc k)) _ _ e) in
-    yes-kind Number (suc k) bs at 0 rest refl w (yes-number (suc k) 0 0 bs at rest g alone w)
-yes-opening n left o bs at rest (before {k = k} {left = l} h) g e =
-    let w = spelled Number k bs at rest (omega arith) (item-one (headBytes Number k) _ _ e) in
-    yes-kind Number k bs at (suc l) rest refl w (yes-number k (suc l) (suc l) bs at rest g (before h) w)
-yes-opening n left o bs at rest (all! {left = l} h) g e =
+yes-opening n left o bs at rest empty f good e = yes! (record { says = refl; left = refl; after = e })
+yes-opening n left o bs at rest (alone {k = k}) f good e =
+    let w = spelled Number (suc k) bs at rest f (item-one (headBytes Number (suc k)) _ _ e) in
+    yes-kind Number (suc k) bs at 0 rest refl w (yes-number (suc k) 0 0 bs at rest good alone w)
+yes-opening n left o bs at rest (before {k = k} {left = l} h) f good e =
+    let w = spelled Number k bs at rest f (item-one (headBytes Number k) _ _ e) in
+    yes-kind Number k bs at (suc l) rest refl w (yes-number k (suc l) (suc l) bs at rest good (before h) w)
+yes-opening n left o bs at rest (all! {left = l} h) f good e =
     let w = spelled-true bs at rest (item-one trueItem _ _ e) in
     yes-kind True 21 bs at l rest refl w
-    (yes-need _ _ _ _ (le-leb (suc l) 4 (omega arith)) (yes! (record { says = refl; left = omega arith; after = w .rest })))
-yes-opening n left o bs at rest (full! {s = s} {a = a} {left = l} h) g e =
-    yes-scheme s a l bs at rest (g .0) (g .1)
+    (yes-need _ _ _ _ (λ g. le-leb (suc l) 4 (omega arith)) (λ t. yes! (record { says = refl; left = omega arith; after = w .rest })))
+yes-opening n left o bs at rest (full! {s = s} {a = a} {left = l} h) f good e =
+    yes-scheme s bs at (suc l) (authorityItem a ++ rest) (f .0) (λ g. good g .0)
     (first-item (orNull schemeItem s) (authorityItem a ∷ []) _ rest e ∙ ap (λ (x : Bytes). orNull schemeItem s ++ (x ++ rest)) (append-nil (authorityItem a)))
+    (yes-afterScheme s a l bs at rest (f .1) (λ g. good g .1))
+yes-opening n left o bs at rest (lone {s = s}) f good e =
+    yes-scheme s bs at 0 rest (f .0) (λ g. absurd (good g)) (item-one (orNull schemeItem s) _ _ e) (λ x next d r. yes-ok good (no-second bs at x next))
+yes-opening n left o bs at rest (missing {s = s} {left = l} h) f good e =
+    yes-scheme s bs at (suc (suc l)) (nullItem ++ rest) (f .0) (λ g. absurd (good g)) (first-item (orNull schemeItem s) (nullItem ∷ []) _ rest e)
+    (λ x next d r. yes-ok good (no-authority bs at (suc (suc (suc l))) x next rest r))
+
+-- a good opening fits
+
+fit-scheme : (s : Scheme Bytes) → GoodScheme s → FitScheme s
+fit-scheme (number n) g = omega (arith, known-below n g)
+fit-scheme (name t) g = good-64 {s = schemeName} (lit< tt) t g
+
+pub fit-set : {A : Type 0} {P Q : A → Type 0} → ((a : A) → P a → Q a) → (o : Option A) → If P o → If Q o
+fit-set f none g = tt
+fit-set f (some a) g = f a g
+
+pub fit-opening : (o : Opening Bytes) → GoodOpening o → FitOpening o
+fit-opening (discard k) g = omega arith
+fit-opening discardAll g = tt
+fit-opening (full s none) g = absurd g
+fit-opening (full s (some a)) g = (fit-set fit-scheme s (g .0), fit-authority a (g .1))
 
 -- ---- more bytes at the end
 
@@ -261,6 +315,8 @@ opens-left alone = lit≤ tt
 opens-left (before h) = omega arith
 opens-left (all! h) = h
 opens-left (full! h) = h
+opens-left lone = lit≤ tt
+opens-left (missing h) = omega arith
 
 pub opens-count : {n left : ℕ} {o : Opening Bytes} → Opens n o left → n ≤ 5
 opens-count empty = lit≤ tt
@@ -268,12 +324,15 @@ opens-count alone = lit≤ tt
 opens-count (before h) = omega arith
 opens-count (all! h) = omega arith
 opens-count (full! h) = omega arith
+opens-count lone = lit≤ tt
+opens-count (missing h) = omega arith
 
-pub opens-of : (o : Opening Bytes) (xs : List Bytes) → GoodOpening o → length xs ≤ 3 → Opens (length (withOpening o xs)) o (length xs)
+pub opens-of : (o : Opening Bytes) (xs : List Bytes) → length xs ≤ 3 → Opens (length (withOpening o xs)) o (length xs)
 unfolding withOpening discardAlone
-opens-of (discard zero) [] g h = empty
-opens-of (discard (suc k)) [] g h = alone
-opens-of (discard k) (x ∷ xs) g h = before {left = length xs} (omega arith)
-opens-of discardAll xs g h = all! h
-opens-of (full s none) xs g h = absurd g
-opens-of (full s (some a)) xs g h = full! h
+opens-of (discard zero) [] h = empty
+opens-of (discard (suc k)) [] h = alone
+opens-of (discard k) (x ∷ xs) h = before {left = length xs} (omega arith)
+opens-of discardAll xs h = all! h
+opens-of (full s (some a)) xs h = full! h
+opens-of (full s none) [] h = lone
+opens-of (full s none) (x ∷ xs) h = missing {left = length xs} (omega arith)

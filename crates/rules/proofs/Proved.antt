@@ -16,9 +16,11 @@ use Rattle.rules.specs.Text.{uriText}
 use Rattle.rules.specs.Calls.{Ruling, write, ruling, Done, outcome, after, printed, textCall, resolveCall}
 use Rattle.rules.specs.Cases.{starred, unstarred, slips, refusals, requests, addresses}
 use Rattle.rules.specs.Promises as P
-use Rattle.rules.specs.Promises.{done, shown}
+use Rattle.rules.specs.Promises.{done, shown, Writes}
 use Rattle.rules.proofs.Steps.{ok-at, bind-ok}
 use Rattle.rules.proofs.Reading.{canonical, complete, prefix-refused, prefix-accepted}
+use Rattle.rules.proofs.Numbers.{numbers}
+use Rattle.rules.proofs.RoundTrips.{read-write, write-read}
 use Rattle.rules.proofs.Encoding.{encode-octets}
 use Rattle.rules.proofs.Absolutes.{GoodCri, good-read, fits-valid, fits-read}
 use Rattle.rules.proofs.TextBack.{text-same}
@@ -36,17 +38,16 @@ pub exact-proved : P.Exact
 exact-proved lim small bs r h =
     (λ e. ok-at (canonical lim bs h) e, λ e. ap (readReference lim) (sym (e .0)) ∙ complete lim small r (e .1))
 
+pub numbers-proved : P.Numbers
+numbers-proved = numbers
+
 pub prefix-proved : P.Prefix
 prefix-proved lim p q h size n k d e = prefix-refused lim p q h size n k d e
 
 pub tail-proved : P.Tail
 tail-proved lim p b q h size f e = prefix-accepted lim p b q h size f e
 
--- ---- the URI text call on an accepted absolute input
-
-text-ruling : (lim : Limits) (bs : Bytes) (c : Cri) → readAbsolute lim bs ≡ ok c → textCall lim bs ≡ write (uriText c)
-unfolding textCall printed
-text-ruling lim bs c e = ap ruling (sym (bind-ok (readAbsolute lim bs) (λ c. ok (uriText c)) c (sym e)))
+-- ---- what a call writes
 
 -- with room enough, what is written is written whole
 pub enough : (u : Ruling) (w : Bytes) (n : ℕ) → u ≡ write w → length w ≤ n → outcome u n ≡ done (length w)
@@ -56,6 +57,21 @@ enough u w n e h = rw (e, le-ltb n (length w) h)
 pub shown-enough : (u : Ruling) (w room : Bytes) → u ≡ write w → length w ≤ length room → shown u room ≡ w
 unfolding outcome after
 shown-enough u w room e h = rw (e, le-ltb (length room) (length w) h) (take-at w (drop (length w) room) (length w) refl)
+
+pub writes : (u : Ruling) (w : Bytes) → u ≡ write w → Writes u w
+writes u w e = record { ruled = e; told = λ room h. enough u w (length room) e h; bytes = λ room h. shown-enough u w room e h }
+
+pub read-write-proved : P.ReadWrite
+read-write-proved lim bs h z = writes _ bs (read-write lim bs h z)
+
+pub write-read-proved : P.WriteRead
+write-read-proved = write-read
+
+-- ---- the URI text call on an accepted absolute input
+
+text-ruling : (lim : Limits) (bs : Bytes) (c : Cri) → readAbsolute lim bs ≡ ok c → textCall lim bs ≡ write (uriText c)
+unfolding textCall printed
+text-ruling lim bs c e = ap ruling (sym (bind-ok (readAbsolute lim bs) (λ c. ok (uriText c)) c (sym e)))
 
 pub demand3-proved : P.Demand3
 demand3-proved lim a b c d ha hb ea eb x y hx hy =

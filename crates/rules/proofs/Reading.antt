@@ -1,6 +1,7 @@
 -- The laws of the reader, for any limits:
 --   canonical:  what is accepted says a valid reference, whose encoding is the bytes read;
 --   complete:   the encoding of a valid reference is accepted, and says that reference;
+--   says:       where the encoding of a reference is accepted, it says that reference;
 --   prefix:     a refusal other than CUT stands, whatever follows; an accepted input with bytes after it is TAIL at the first of them.
 use Prim.Native.Nat.{ℕ, suc, _+_, _-_, _^_, _≤_, _<_}
 use native.Mathlib.Omega.{arith}
@@ -14,17 +15,18 @@ use Rattle.rules.specs.Bytes.{Bytes, Octets, concat}
 use Rattle.rules.specs.Result.{Res, refused, ok, TAIL}
 use Rattle.rules.specs.Model.{Opening, full, Reference, Limits, mapScheme, mapHost, mapOpening}
 use Rattle.rules.specs.Head.{Array, codeOf, is, Head, kindAt, headAt, headBytes}
-use Rattle.rules.specs.Rules.{segment, parameter, fragmentText}
+use Rattle.rules.specs.Rules.{Sort, segment, parameter, fragmentText}
 use Rattle.rules.specs.Reader.{taken, contents, SlotAt, SchemeAt, noScheme, numberAt, nameAt, Slot, unset, set, HostAt, addressAt, labelsAt, OpeningAt, discardAt, discardAllAt, fullAt, Opened, Found, read}
 use Rattle.rules.specs.Meaning.{schemeSpan, hostSpans, openingSpans, textSpans, textSpan, components, meaning, readReference}
 use Rattle.rules.specs.Encode.{textItem, textsItem, arrayItem, tailItems, withOpening, encode}
-use Rattle.rules.specs.Valid.{Good, GoodTexts, Valid}
-use Rattle.rules.proofs.Tools.{concat-append}
-use Rattle.rules.proofs.Steps.{Ok, ok!, ok-bind, ok-need, Yes, yes!, yes-bind, yes-need, yes-use, Kept, kept-bind, kept-need, kept-last, kept-both, kept-refused, kept-accepted, bind-ok}
+use Rattle.rules.specs.Valid.{If, Good, GoodTexts, Valid}
+use Rattle.rules.proofs.Tools.{within-high, each-map, concat-append}
+use Rattle.rules.proofs.Steps.{Ok, ok!, ok-bind, ok-need, Yes, yes!, yes-bind, yes-need, yes-use, ok-yes, Kept, kept-bind, kept-need, kept-last, kept-both, kept-refused, kept-accepted, bind-ok}
 use Rattle.rules.proofs.Heads.{is-kind, Stands, ok-head, yes-head, head-ok, head-spells, next-inside, head-stable}
-use Rattle.rules.proofs.Slots.{saidTexts, saidText, Last, written, SlotIs, ok-array, ok-fragment, yes-array, yes-fragment, array-stable, fragment-stable, three, tail-three}
+use Rattle.rules.proofs.Texts.{FitText, good-64}
+use Rattle.rules.proofs.Slots.{saidTexts, saidText, Last, written, SlotIs, ok-array, ok-fragment, FitTexts, yes-array, yes-fragment, array-stable, fragment-stable, three, tail-three}
 use Rattle.rules.proofs.Authorities.{saidHost, same-authority, spelled-array}
-use Rattle.rules.proofs.Openings.{saidScheme, saidOpening, Opens, openItems, with-items, OpenedAt, ok-opening, yes-opening, opening-stable, opens-left, opens-count, opens-of}
+use Rattle.rules.proofs.Openings.{saidScheme, saidOpening, Opens, openItems, with-items, OpenedAt, ok-opening, FitOpening, yes-opening, fit-set, fit-opening, opening-stable, opens-left, opens-count, opens-of}
 
 -- a reference is its four parts
 pub same-reference : {o o′ : Opening Bytes} {p p′ q q′ : Option (List Bytes)} {f f′ : Option Bytes} → o ≡ o′ → p ≡ p′ → q ≡ q′ → f ≡ f′
@@ -114,7 +116,26 @@ pub canonical : (lim : Limits) (bs : Bytes) → Octets bs → Ok (λ r. (encode 
 unfolding readReference
 canonical lim bs sm = ok-bind _ _ (canonical-found lim bs sm) (λ f h. ok! h)
 
--- ---- complete
+-- ---- complete, says
+
+-- numbers, lengths and counts that heads can carry
+pub record Fit (r : Reference) : Type 0 where
+  pub opening : FitOpening (r .opening)
+  pub path : If FitTexts (r .path)
+  pub query : If FitTexts (r .query)
+  pub fragment : If FitText (r .fragment)
+
+fit-texts : (s : Sort) (low high : ℕ) → s .high < 2 ^ 64 → high < 2 ^ 64 → (ts : List Bytes) → GoodTexts s low high ts → FitTexts ts
+fit-texts s low high f f′ ts g = (omega (arith, within-high low high (length ts) (g .count)), each-map (good-64 f) ts (g .each))
+
+pub fit-valid : (lim : Limits) → lim .segments < 2 ^ 64 → (r : Reference) → Valid lim r → Fit r
+fit-valid lim small r v =
+    record {
+      opening = fit-opening (r .opening) (v .opening);
+      path = fit-set (fit-texts segment 0 (lim .segments) (lit< tt) small) (r .path) (v .path);
+      query = fit-set (fit-texts parameter 1 16 (lit< tt) (lit< tt)) (r .query) (v .query);
+      fragment = fit-set (good-64 {s = fragmentText} (lit< tt)) (r .fragment) (v .fragment);
+    }
 
 last-many : {A : Type 0} (n : ℕ) (o : Option A) → Last (suc (suc n)) o
 last-many n none = tt
@@ -133,7 +154,8 @@ tail-last none none none = (lit≤ tt, tt, tt, tt)
 unlink : (xs ys : List Bytes) (l r : Bytes) → l ≡ concat (xs ++ ys) ++ r → l ≡ concat xs ++ (concat ys ++ r)
 unlink xs ys l r e = e ∙ ap (λ (m : Bytes). m ++ r) (concat-append xs ys) ∙ append-assoc (concat xs) (concat ys) r
 
-module _ (lim : Limits) (small : lim .segments < 2 ^ 64) (r : Reference) (v : Valid lim r) where
+-- the encoding is accepted where the reference is valid, and says the reference where it is accepted
+module _ {G : Type 0} (lim : Limits) (r : Reference) (fit : Fit r) (good : G → Valid lim r) where
   abbrev items : List Bytes
   items = tailItems (r .path) (r .query) (r .fragment)
 
@@ -143,13 +165,13 @@ module _ (lim : Limits) (small : lim .segments < 2 ^ 64) (r : Reference) (v : Va
   abbrev count : ℕ
   count = length items
 
-  complete-found : Yes (λ f. meaning (encode r) f ≡ r) (read lim (encode r))
+  encoding-read : Yes G (λ f. meaning (encode r) f ≡ r) (read lim (encode r))
   unfolding read encode codeOf
-  complete-found =
+  encoding-read =
       let bs : Bytes = encode r in
       let h : Head = headAt bs 0 in
       let l = tail-last (r .path) (r .query) (r .fragment) in
-      let os : Opens (length every) (r .opening) count = opens-of (r .opening) items (v .opening) (l .0) in
+      let os : Opens (length every) (r .opening) count = opens-of (r .opening) items (l .0) in
       let few : length every ≤ 5 = opens-count os in
       let t = tail-three count (r .path) (r .query) (r .fragment) (l .0) (l .1) (l .2) (l .3) in
       let w = with-items (length every) count (r .opening) items os refl in
@@ -159,23 +181,26 @@ module _ (lim : Limits) (small : lim .segments < 2 ^ 64) (r : Reference) (v : Va
       let a = spelled-array every bs 0 [] (omega arith) (sym (append-nil bs)) in
       let e : drop (h .next) bs ≡ concat (openItems (length every) (r .opening) ++ (ps ++ (qs ++ fs))) ++ [] =
       a .rest ∙ ap (λ (xs : List Bytes). concat xs ++ []) (w .0 ∙ ap (λ (xs : List Bytes). openItems (length every) (r .opening) ++ xs) (t .0)) in
-      yes-need _ _ _ _ (le-leb _ _ (v .size))
-      (yes-head _ _ _ _ (a .stands (is Array) refl)
-      (yes-need _ _ _ _ (le-leb (h .value) 5 (omega (arith, a .value)))
-      (rw (a .value)
-      (yes-bind _ _ (yes-opening (length every) count (r .opening) bs (h .next) (concat (ps ++ (qs ++ fs)) ++ []) os (v .opening) (unlink _ (ps ++ (qs ++ fs)) _ [] e)) (λ o oa.
+      yes-need _ _ _ _ (λ g. le-leb _ _ (good g .size))
+      (λ t. yes-head _ _ _ _ (a .stands (is Array) refl)
+      (yes-need _ _ _ _ (λ g. le-leb (h .value) 5 (omega (arith, a .value)))
+      (λ t. rw (a .value)
+      (yes-bind _ _ (yes-opening (length every) count (r .opening) bs (h .next) (concat (ps ++ (qs ++ fs)) ++ []) os (fit .opening) (λ g. good g .opening) (unlink _ (ps ++ (qs ++ fs)) _ [] e)) (λ o oa.
       rw (oa .left)
-      (yes-bind _ _ (yes-array segment 0 (lim .segments) (lit< tt) small (r .path) bs (o .next) count (concat (qs ++ fs) ++ []) (l .1) (v .path) (unlink ps (qs ++ fs) _ [] (oa .after))) (λ p pa.
-      yes-bind _ _ (yes-array parameter 1 16 (lit< tt) (lit< tt) (r .query) bs (p .next) (count - 1) (concat fs ++ []) (l .2) (v .query) (unlink qs fs _ [] (pa .after))) (λ q qa.
-      yes-bind _ _ (yes-fragment (r .fragment) bs (q .next) (count - 2) [] (l .3) (v .fragment) (qa .after)) (λ f fa.
-      yes-need _ _ _ _ (le-leb (length bs) (f .next) (omega (arith, length-drop (f .next) bs, ap length (fa .after))))
-      (yes! (meaning-said bs (o .opening) (p .slot) (q .slot) (f .slot) ∙ same-reference (oa .says) (pa .says) (qa .says) (fa .says))))))))))))
+      (yes-bind _ _ (yes-array segment 0 (lim .segments) (r .path) bs (o .next) count (concat (qs ++ fs) ++ []) (l .1) (fit .path) (λ g. good g .path) (unlink ps (qs ++ fs) _ [] (oa .after))) (λ p pa.
+      yes-bind _ _ (yes-array parameter 1 16 (r .query) bs (p .next) (count - 1) (concat fs ++ []) (l .2) (fit .query) (λ g. good g .query) (unlink qs fs _ [] (pa .after))) (λ q qa.
+      yes-bind _ _ (yes-fragment (r .fragment) bs (q .next) (count - 2) [] (l .3) (fit .fragment) (λ g. good g .fragment) (qa .after)) (λ f fa.
+      yes-need _ _ _ _ (λ g. le-leb (length bs) (f .next) (omega (arith, length-drop (f .next) bs, ap length (fa .after))))
+      (λ t. yes! (meaning-said bs (o .opening) (p .slot) (q .slot) (f .slot) ∙ same-reference (oa .says) (pa .says) (qa .says) (fa .says))))))))))))
 
-  pub complete : readReference lim (encode r) ≡ ok r
-  unfolding readReference
-  complete =
-      let y = yes-use complete-found in
-      sym (bind-ok _ _ (y .0) (sym (y .1))) ∙ ap ok (y .2)
+pub complete : (lim : Limits) → lim .segments < 2 ^ 64 → (r : Reference) → Valid lim r → readReference lim (encode r) ≡ ok r
+unfolding readReference
+complete lim small r v =
+    let y = yes-use (encoding-read lim r (fit-valid lim small r v) (λ g. v)) in
+    sym (bind-ok _ _ (y .0) (sym (y .1))) ∙ ap ok (y .2)
+
+pub says : (lim : Limits) (r : Reference) → Fit r → Ok (λ f. meaning (encode r) f ≡ r) (read lim (encode r))
+says lim r fit = ok-yes (encoding-read {G = ⊥} lim r fit (λ g. absurd g))
 
 -- ---- prefix
 

@@ -6,18 +6,17 @@ use mathlib.Core.Bool.{Bool, true, not, _||_}
 use mathlib.Core.List.{List, [], _∷_, _++_, append-assoc, append-nil, map}
 use mathlib.Core.Option.{Option, none, some}
 use lib.ListN.{length, getD, drop, length-map}
-use lib.Dec.{lit<}
 use borrow.Author.Tests.{ne-eqb}
-use Rattle.rules.specs.Bytes.{Bytes, Octets, part, within, concat, bigEndian}
+use Rattle.rules.specs.Bytes.{Bytes, Each, Octets, part, within, concat, bigEndian}
 use Rattle.rules.specs.Head.{Kind, Text, Array, Null, codeOf, is, Head, kindAt, headAt, headBytes, majorOf, shortest, width}
 use Rattle.rules.specs.Rules.{Sort, fragmentText}
 use Rattle.rules.specs.Reader.{contents, Slot, unset, set, SlotAt, nullBody, arrayBody, readArray, fragmentBody, readFragment}
 use Rattle.rules.specs.Encode.{textItem, arrayItem, textsItem, nullItem, orNull, tailItems}
 use Rattle.rules.specs.Valid.{If, Good, GoodTexts}
-use Rattle.rules.proofs.Tools.{never, or-left, within-high}
+use Rattle.rules.proofs.Tools.{never, or-left}
 use Rattle.rules.proofs.Steps.{Ok, ok!, ok-bind, ok-if, ok-need, Yes, yes!, yes-bind, yes-then, yes-else, yes-need, Stable, same!, stable-bind, stable-if, stable-need}
 use Rattle.rules.proofs.Heads.{is-kind, small-value, Stands, ok-head, yes-head, head-spells, next-inside, Spelled, spelled, head-stable, Lead, lead}
-use Rattle.rules.proofs.Texts.{contentAt, ok-textBody, ok-texts, good-64, yes-textBody, spelled-text, yes-texts, textBody-stable, texts-stable, length-contents}
+use Rattle.rules.proofs.Texts.{contentAt, ok-textBody, ok-texts, FitText, yes-textBody, spelled-text, yes-texts, textBody-stable, texts-stable, length-contents}
 
 -- what a slot says
 abbrev pub saidTexts : Bytes → Slot → Option (List Bytes)
@@ -128,25 +127,29 @@ ok-fragment bs at (suc left) sm =
     (λ y. ok-null (saidText bs) refl bs at left sm r (is-kind Null _ y))
     (λ n. ok-fragmentBody bs at left sm r (is-kind Text _ (or-left _ _ (r .kind) n))))
 
--- ---- a slot that was written is accepted
+-- ---- a slot that was written is accepted where it is good, and what is accepted is the slot
+
+-- a count and lengths that heads can carry
+abbrev pub FitTexts : List Bytes → Type 0
+FitTexts ts = (length ts < 2 ^ 64) × Each FitText ts
 
 pub record SlotWas {A : Type 0} (say : Slot → Option A) (o : Option A) (bs : Bytes) (rest : Bytes) (p : SlotAt) : Type 0 where
   pub says : say (p .slot) ≡ o
   pub after : drop (p .next) bs ≡ rest
 
-yes-null : {A : Type 0} (say : Slot → Option A) → say unset ≡ none → (bs : Bytes) (at left : ℕ) (rest : Bytes) → Spelled Null 22 bs at rest
-    → Yes (λ p. SlotWas say none bs rest p) (nullBody at (suc left) (headAt bs at))
+yes-null : {G A : Type 0} (say : Slot → Option A) → say unset ≡ none → (bs : Bytes) (at left : ℕ) (rest : Bytes) → Spelled Null 22 bs at rest
+    → Yes G (λ p. SlotWas say none bs rest p) (nullBody at (suc left) (headAt bs at))
 unfolding nullBody
-yes-null say u bs at left rest w = yes-need _ _ _ _ (ap not (ne-eqb (suc left) 0 (omega arith))) (yes! (record { says = u; after = w .rest }))
+yes-null say u bs at left rest w = yes-need _ _ _ _ (λ g. ap not (ne-eqb (suc left) 0 (omega arith))) (λ t. yes! (record { says = u; after = w .rest }))
 
-yes-arrayBody : (s : Sort) (low high : ℕ) → s .high < 2 ^ 64 → (ts : List Bytes) (bs : Bytes) (at : ℕ) (rest : Bytes) → GoodTexts s low high ts
+yes-arrayBody : {G : Type 0} (s : Sort) (low high : ℕ) (ts : List Bytes) (bs : Bytes) (at : ℕ) (rest : Bytes) → Each FitText ts → (G → GoodTexts s low high ts)
     → Spelled Array (length ts) bs at (concat (map textItem ts) ++ rest)
-    → Yes (λ p. SlotWas (saidTexts bs) (some ts) bs rest p) (arrayBody s low high bs at (headAt bs at))
+    → Yes G (λ p. SlotWas (saidTexts bs) (some ts) bs rest p) (arrayBody s low high bs at (headAt bs at))
 unfolding arrayBody
-yes-arrayBody s low high f ts bs at rest g w =
+yes-arrayBody s low high ts bs at rest f good w =
     let h : Head = headAt bs at in
-    yes-need _ _ _ _ (subst (λ (m : ℕ). within low high m ≡ true) (sym (w .value)) (g .count))
-    (rw (w .value) (yes-bind _ _ (yes-texts s f ts bs (h .next) rest (g .each) (w .rest)) (λ next r.
+    yes-need _ _ _ _ (λ g. subst (λ (m : ℕ). within low high m ≡ true) (sym (w .value)) (good g .count))
+    (λ t. rw (w .value) (yes-bind _ _ (yes-texts s ts bs (h .next) rest f (λ g. good g .each) (w .rest)) (λ next r.
     yes! (record { says = ap some (r .1); after = r .0 }))))
 
 spelled-texts : (ts : List Bytes) (bs : Bytes) (at : ℕ) (rest : Bytes) → length ts < 2 ^ 64 → drop at bs ≡ textsItem ts ++ rest
@@ -157,32 +160,32 @@ spelled-texts ts bs at rest f e =
     (e ∙ append-assoc (headBytes Array (length (map textItem ts))) (concat (map textItem ts)) rest
     ∙ ap (λ (n : ℕ). headBytes Array n ++ (concat (map textItem ts) ++ rest)) (length-map ts textItem))
 
-pub yes-array : (s : Sort) (low high : ℕ) → s .high < 2 ^ 64 → high < 2 ^ 64 → (o : Option (List Bytes)) (bs : Bytes) (at left : ℕ) (rest : Bytes)
-    → Last left o → If (GoodTexts s low high) o → drop at bs ≡ concat (written textsItem left o) ++ rest
-    → Yes (λ p. SlotWas (saidTexts bs) o bs rest p) (readArray s low high bs at left)
+pub yes-array : {G : Type 0} (s : Sort) (low high : ℕ) (o : Option (List Bytes)) (bs : Bytes) (at left : ℕ) (rest : Bytes)
+    → Last left o → If FitTexts o → (G → If (GoodTexts s low high) o) → drop at bs ≡ concat (written textsItem left o) ++ rest
+    → Yes G (λ p. SlotWas (saidTexts bs) o bs rest p) (readArray s low high bs at left)
 unfolding readArray concat orNull codeOf
-yes-array s low high f f′ none bs at zero rest l g e = yes! (record { says = refl; after = e })
-yes-array s low high f f′ none bs at (suc (suc n)) rest l g e =
+yes-array s low high none bs at zero rest l f good e = yes! (record { says = refl; after = e })
+yes-array s low high none bs at (suc (suc n)) rest l f good e =
     let w = spelled-null bs at rest (item-one nullItem _ _ e) in
     yes-head _ _ _ _ (w .stands (λ k. is Array k || is Null k) refl) (yes-then _ _ _ (subst (λ (k : Kind). is Null k ≡ true) (sym (w .kind)) refl) (yes-null (saidTexts bs) refl bs at n rest w))
-yes-array s low high f f′ (some ts) bs at (suc n) rest l g e =
-    let w = spelled-texts ts bs at rest (omega (arith, within-high low high (length ts) (g .count))) (item-one (textsItem ts) _ _ e) in
+yes-array s low high (some ts) bs at (suc n) rest l f good e =
+    let w = spelled-texts ts bs at rest (f .0) (item-one (textsItem ts) _ _ e) in
     yes-head _ _ _ _ (w .stands (λ k. is Array k || is Null k) refl)
-    (yes-else _ _ _ (subst (λ (k : Kind). not (is Null k) ≡ true) (sym (w .kind)) refl) (yes-arrayBody s low high f ts bs at rest g w))
+    (yes-else _ _ _ (subst (λ (k : Kind). not (is Null k) ≡ true) (sym (w .kind)) refl) (yes-arrayBody s low high ts bs at rest (f .1) good w))
 
-pub yes-fragment : (o : Option Bytes) (bs : Bytes) (at left : ℕ) (rest : Bytes)
-    → Last left o → If (Good fragmentText) o → drop at bs ≡ concat (written textItem left o) ++ rest
-    → Yes (λ p. SlotWas (saidText bs) o bs rest p) (readFragment bs at left)
+pub yes-fragment : {G : Type 0} (o : Option Bytes) (bs : Bytes) (at left : ℕ) (rest : Bytes)
+    → Last left o → If FitText o → (G → If (Good fragmentText) o) → drop at bs ≡ concat (written textItem left o) ++ rest
+    → Yes G (λ p. SlotWas (saidText bs) o bs rest p) (readFragment bs at left)
 unfolding readFragment concat orNull codeOf fragmentBody
-yes-fragment none bs at zero rest l g e = yes! (record { says = refl; after = e })
-yes-fragment none bs at (suc (suc n)) rest l g e =
+yes-fragment none bs at zero rest l f good e = yes! (record { says = refl; after = e })
+yes-fragment none bs at (suc (suc n)) rest l f good e =
     let w = spelled-null bs at rest (item-one nullItem _ _ e) in
     yes-head _ _ _ _ (w .stands (λ k. is Text k || is Null k) refl) (yes-then _ _ _ (subst (λ (k : Kind). is Null k ≡ true) (sym (w .kind)) refl) (yes-null (saidText bs) refl bs at n rest w))
-yes-fragment (some t) bs at (suc n) rest l g e =
-    let w = spelled-text t bs at rest (good-64 {s = fragmentText} (lit< tt) t g) (item-one (textItem t) _ _ e) in
+yes-fragment (some t) bs at (suc n) rest l f good e =
+    let w = spelled-text t bs at rest f (item-one (textItem t) _ _ e) in
     yes-head _ _ _ _ (w .stands (λ k. is Text k || is Null k) refl)
     (yes-else _ _ _ (subst (λ (k : Kind). not (is Null k) ≡ true) (sym (w .kind)) refl)
-    (yes-bind _ _ (yes-textBody fragmentText t bs at rest w g) (λ next r. yes! (record { says = ap some (r .says); after = r .after }))))
+    (yes-bind _ _ (yes-textBody fragmentText t bs at rest w good) (λ next r. yes! (record { says = ap some (r .says); after = r .after }))))
 
 -- ---- more bytes at the end
 

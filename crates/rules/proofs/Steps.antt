@@ -1,6 +1,6 @@
 -- Four ways to follow a reader step by step, one rule for each of `_>>=_`, `need` and `if`:
 --   Ok P r       if r accepts, P holds of the answer;
---   Yes P r      r accepts, and P holds of the answer;
+--   Yes G P r    r accepts, and P holds of the answer; or G does not hold;
 --   Stable r r′  r is cut off, or r′ is r;
 --   Kept Q r r′  r is cut off, or r′ is the same refusal, or r accepts and Q holds of r′.
 -- And the steps that code takes: what a function that found this has to answer.
@@ -84,35 +84,49 @@ ok-use (ok! p) = p
 pub ok-at : {A : Type 0} {P : A → Type 0} {m : Res A} {a : A} → Ok P m → m ≡ ok a → P a
 ok-at {P = P} o e = ok-use (subst (Ok P) e o)
 
--- ---- it accepts
+-- ---- it accepts, where G holds
 
-pub data Yes {A : Type 0} (P : A → Type 0) : Res A → Type 0 where
-  yes! : {a : A} → P a → Yes P (ok a)
+pub data Yes (G : Type 0) {A : Type 0} (P : A → Type 0) : Res A → Type 0 where
+  yes! : {a : A} → P a → Yes G P (ok a)
+  not! : {n k : ℕ} → (G → ⊥) → Yes G P (refused n k)
 
-pub yes-bind : {A B : Type 0} {P : A → Type 0} {Q : B → Type 0} (m : Res A) (f : A → Res B) → Yes P m → ((a : A) → P a → Yes Q (f a)) → Yes Q (m >>= f)
-unfolding _>>=_
-yes-bind (ok a) f (yes! p) g = g a p
+module _ {G : Type 0} where
+  pub yes-bind : {A B : Type 0} {P : A → Type 0} {Q : B → Type 0} (m : Res A) (f : A → Res B) → Yes G P m → ((a : A) → P a → Yes G Q (f a)) → Yes G Q (m >>= f)
+  unfolding _>>=_
+  yes-bind (ok a) f (yes! p) g = g a p
+  yes-bind (refused n k) f (not! d) g = not! d
 
-pub yes-need : {A : Type 0} {P : A → Type 0} (t : Bool) (n k : ℕ) (r : Res A) → t ≡ true → Yes P r → Yes P (need t n k >> r)
-unfolding _>>_ need
-yes-need true n k r t y = y
-yes-need false n k r t y = never t
+  pub yes-need : {A : Type 0} {P : A → Type 0} (t : Bool) (n k : ℕ) (r : Res A) → (G → t ≡ true) → (t ≡ true → Yes G P r) → Yes G P (need t n k >> r)
+  unfolding _>>_ need
+  yes-need true n k r e y = y refl
+  yes-need false n k r e y = not! (λ g. never (e g))
 
-pub yes-then : {A : Type 0} {P : A → Type 0} (t : Bool) (a b : Res A) → t ≡ true → Yes P a → Yes P (if t then a else b)
-unfolding if_then_else_
-yes-then true a b t y = y
-yes-then false a b t y = never t
+  pub yes-then : {A : Type 0} {P : A → Type 0} (t : Bool) (a b : Res A) → t ≡ true → Yes G P a → Yes G P (if t then a else b)
+  unfolding if_then_else_
+  yes-then true a b t y = y
+  yes-then false a b t y = never t
 
-pub yes-else : {A : Type 0} {P : A → Type 0} (t : Bool) (a b : Res A) → not t ≡ true → Yes P b → Yes P (if t then a else b)
-unfolding if_then_else_
-yes-else true a b t y = never t
-yes-else false a b t y = y
+  pub yes-else : {A : Type 0} {P : A → Type 0} (t : Bool) (a b : Res A) → not t ≡ true → Yes G P b → Yes G P (if t then a else b)
+  unfolding if_then_else_
+  yes-else true a b t y = never t
+  yes-else false a b t y = y
 
-pub yes-map : {A : Type 0} {P Q : A → Type 0} {m : Res A} → Yes P m → ((a : A) → P a → Q a) → Yes Q m
-yes-map (yes! {a = a} p) g = yes! (g a p)
+  pub yes-map : {A : Type 0} {P Q : A → Type 0} {m : Res A} → Yes G P m → ((a : A) → P a → Q a) → Yes G Q m
+  yes-map (yes! {a = a} p) g = yes! (g a p)
+  yes-map (not! d) g = not! d
 
-pub yes-use : {A : Type 0} {P : A → Type 0} {m : Res A} → Yes P m → (a : A) × (m ≡ ok a) × P a
+  -- where G does not hold, it may refuse
+  pub yes-ok : {A : Type 0} {P : A → Type 0} {m : Res A} → (G → ⊥) → Ok P m → Yes G P m
+  yes-ok d no! = not! d
+  yes-ok d (ok! p) = yes! p
+
+  pub ok-yes : {A : Type 0} {P : A → Type 0} {m : Res A} → Yes G P m → Ok P m
+  ok-yes (yes! p) = ok! p
+  ok-yes (not! d) = no!
+
+pub yes-use : {A : Type 0} {P : A → Type 0} {m : Res A} → Yes (Unit {0}) P m → (a : A) × (m ≡ ok a) × P a
 yes-use (yes! {a = a} p) = (a, refl, p)
+yes-use (not! d) = absurd (d tt)
 
 -- ---- two runs agree, unless the first was cut off
 

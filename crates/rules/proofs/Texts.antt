@@ -37,9 +37,9 @@ content-ok : (bs : Bytes) (at : ℕ) (h : Head) → Ok (λ t. (t ≡ part bs (h 
 unfolding readContent
 content-ok bs at h = ok-need _ _ _ _ (λ t. ok! (refl, leb-true _ _ t))
 
-content-yes : (bs : Bytes) (at : ℕ) (h : Head) → h .next + h .value ≤ length bs → Yes (λ t. t ≡ part bs (h .next) (h .value)) (readContent bs at h)
+content-yes : {G : Type 0} (bs : Bytes) (at : ℕ) (h : Head) → h .next + h .value ≤ length bs → Yes G (λ t. t ≡ part bs (h .next) (h .value)) (readContent bs at h)
 unfolding readContent
-content-yes bs at h l = yes-need _ _ _ _ (le-leb _ _ l) (yes! refl)
+content-yes bs at h l = yes-need _ _ _ _ (λ g. le-leb _ _ l) (λ t. yes! refl)
 
 pub content-stable : (p q : Bytes) (at : ℕ) (h : Head) → Stable (readContent p at h) (readContent (p ++ q) at h)
 unfolding readContent
@@ -53,7 +53,7 @@ module _ {B : Type 0} {Q : B → Type 0} (bs : Bytes) (at : ℕ) (h : Head) (f :
   pub ok-content : (h .next + h .value ≤ length bs → Ok Q (f (part bs (h .next) (h .value)))) → Ok Q (readContent bs at h >>= f)
   ok-content g = ok-bind _ _ (content-ok bs at h) (λ t r. rw (r .0) (g (r .1)))
 
-  pub yes-content : h .next + h .value ≤ length bs → Yes Q (f (part bs (h .next) (h .value))) → Yes Q (readContent bs at h >>= f)
+  pub yes-content : {G : Type 0} → h .next + h .value ≤ length bs → Yes G Q (f (part bs (h .next) (h .value))) → Yes G Q (readContent bs at h >>= f)
   yes-content l g = yes-bind _ _ (content-yes bs at h l) (λ t e. rw e g)
 
 -- ---- a text that is accepted
@@ -112,7 +112,11 @@ ok-texts s bs at (suc n) sm =
       inside = λ h. r′ .inside (t .stands .inside);
     }))
 
--- ---- a text that was written is accepted
+-- ---- a text that was written is accepted where it is good, and what is accepted is the text
+
+-- a length that a head can carry
+abbrev pub FitText : Bytes → Type 0
+FitText t = length t < 2 ^ 64
 
 -- it ends where the rest begins, and its content is the text
 pub record TextWas (t : Bytes) (bs : Bytes) (at : ℕ) (rest : Bytes) (next : ℕ) : Type 0 where
@@ -132,41 +136,41 @@ item-was k t bs at rest w =
       omega (arith, w .inside, w .value, length-drop (h .next) bs, ap length e, length-append t rest),
     )
 
-pub yes-textBody : (s : Sort) (t bs : Bytes) (at : ℕ) (rest : Bytes) → Spelled Text (length t) bs at (t ++ rest) → Good s t
-    → Yes (λ next. TextWas t bs at rest next) (textBody s bs at (headAt bs at))
+pub yes-textBody : {G : Type 0} (s : Sort) (t bs : Bytes) (at : ℕ) (rest : Bytes) → Spelled Text (length t) bs at (t ++ rest) → (G → Good s t)
+    → Yes G (λ next. TextWas t bs at rest next) (textBody s bs at (headAt bs at))
 unfolding textBody
-yes-textBody s t bs at rest w g =
+yes-textBody s t bs at rest w good =
     let i = item-was Text t bs at rest w in
-    yes-need _ _ _ _ (subst (λ (n : ℕ). within (s .low) (s .high) n ≡ true) (sym (w .value)) (g .size))
-    (yes-content _ _ _ _ (i .2)
-    (yes-need _ _ _ _ (subst (λ (x : Bytes). utf8 x ≡ true) (sym (i .0)) (g .encoded))
-    (yes-need _ _ _ _ (subst (λ (x : Bytes). s .rule x ≡ true) (sym (i .0)) (g .rule))
-    (yes! (record { after = i .1; ends = refl; says = i .0 })))))
+    yes-need _ _ _ _ (λ g. subst (λ (n : ℕ). within (s .low) (s .high) n ≡ true) (sym (w .value)) (good g .size))
+    (λ a. yes-content _ _ _ _ (i .2)
+    (yes-need _ _ _ _ (λ g. subst (λ (x : Bytes). utf8 x ≡ true) (sym (i .0)) (good g .encoded))
+    (λ b. yes-need _ _ _ _ (λ g. subst (λ (x : Bytes). s .rule x ≡ true) (sym (i .0)) (good g .rule))
+    (λ c. yes! (record { after = i .1; ends = refl; says = i .0 })))))
 
-pub spelled-text : (t bs : Bytes) (at : ℕ) (rest : Bytes) → length t < 2 ^ 64 → drop at bs ≡ textItem t ++ rest → Spelled Text (length t) bs at (t ++ rest)
+pub spelled-text : (t bs : Bytes) (at : ℕ) (rest : Bytes) → FitText t → drop at bs ≡ textItem t ++ rest → Spelled Text (length t) bs at (t ++ rest)
 unfolding textItem
 spelled-text t bs at rest f e = spelled Text (length t) bs at (t ++ rest) f (e ∙ append-assoc (headBytes Text (length t)) t rest)
 
-pub good-64 : {s : Sort} → s .high < 2 ^ 64 → (t : Bytes) → Good s t → length t < 2 ^ 64
+pub good-64 : {s : Sort} → s .high < 2 ^ 64 → (t : Bytes) → Good s t → FitText t
 good-64 {s} f t g = omega (arith, within-high (s .low) (s .high) (length t) (g .size))
 
-pub yes-text : (s : Sort) → s .high < 2 ^ 64 → (t bs : Bytes) (at : ℕ) (rest : Bytes) → Good s t → drop at bs ≡ textItem t ++ rest
-    → Yes (λ next. TextWas t bs at rest next) (readText s bs at)
+pub yes-text : {G : Type 0} (s : Sort) (t bs : Bytes) (at : ℕ) (rest : Bytes) → FitText t → (G → Good s t) → drop at bs ≡ textItem t ++ rest
+    → Yes G (λ next. TextWas t bs at rest next) (readText s bs at)
 unfolding readText codeOf
-yes-text s f t bs at rest g e =
-    let w = spelled-text t bs at rest (good-64 f t g) e in
-    yes-head _ _ _ _ (w .stands (is Text) refl) (yes-textBody s t bs at rest w g)
+yes-text s t bs at rest f good e =
+    let w = spelled-text t bs at rest f e in
+    yes-head _ _ _ _ (w .stands (is Text) refl) (yes-textBody s t bs at rest w good)
 
--- ---- a run of texts that was written is accepted
+-- ---- the same of a run of texts
 
-pub yes-texts : (s : Sort) → s .high < 2 ^ 64 → (ts : List Bytes) (bs : Bytes) (at : ℕ) (rest : Bytes) → Each (Good s) ts
+pub yes-texts : {G : Type 0} (s : Sort) (ts : List Bytes) (bs : Bytes) (at : ℕ) (rest : Bytes) → Each FitText ts → (G → Each (Good s) ts)
     → drop at bs ≡ concat (map textItem ts) ++ rest
-    → Yes (λ next. (drop next bs ≡ rest) × (contents bs at (length ts) ≡ ts)) (readTexts s bs at (length ts))
+    → Yes G (λ next. (drop next bs ≡ rest) × (contents bs at (length ts) ≡ ts)) (readTexts s bs at (length ts))
 unfolding readTexts contents spans concat
-yes-texts s f [] bs at rest g e = yes! (e, refl)
-yes-texts s f (t ∷ ts) bs at rest g e =
-    yes-bind _ _ (yes-text s f t bs at (concat (map textItem ts) ++ rest) (g .0) (e ∙ append-assoc (textItem t) (concat (map textItem ts)) rest))
-    (λ mid w. yes-map (yes-texts s f ts bs mid rest (g .1) (w .after)) (λ next r.
+yes-texts s [] bs at rest f good e = yes! (e, refl)
+yes-texts s (t ∷ ts) bs at rest f good e =
+    yes-bind _ _ (yes-text s t bs at (concat (map textItem ts) ++ rest) (f .0) (λ g. good g .0) (e ∙ append-assoc (textItem t) (concat (map textItem ts)) rest))
+    (λ mid w. yes-map (yes-texts s ts bs mid rest (f .1) (λ g. good g .1) (w .after)) (λ next r.
     (r .0, ap₂ (λ (x : Bytes) (xs : List Bytes). x ∷ xs) (w .says) (ap (λ (m : ℕ). contents bs m (length ts)) (sym (w .ends)) ∙ r .1))))
 
 -- ---- more bytes at the end

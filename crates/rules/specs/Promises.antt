@@ -8,14 +8,15 @@ use mathlib.Core.Option.{none, some}
 use lib.ListN.{length, take}
 use Rattle.rules.specs.Bytes.{Bytes, Octets}
 use Rattle.rules.specs.Result.{refused, ok, CUT, TAIL, RESULT}
-use Rattle.rules.specs.Model.{discard, Reference, Limits, Cri, reference, normalPath, Same}
-use Rattle.rules.specs.Reader.{Found, read}
+use Rattle.rules.specs.Model.{discard, Reference, Components, mapParts, Limits, Cri, reference, normalPath, Same}
+use Rattle.rules.specs.Reader.{taken, Found, read}
 use Rattle.rules.specs.Meaning.{readReference, readAbsolute}
 use Rattle.rules.specs.Encode.{encode}
 use Rattle.rules.specs.Valid.{Valid}
 use Rattle.rules.specs.Resolve.{resolve, fits}
 use Rattle.rules.specs.Text.{uriText}
-use Rattle.rules.specs.Calls.{Ruling, refuse, write, Done, outcome, after, resolveCall, textCall}
+use Rattle.rules.specs.Writing.{Sized, readCall}
+use Rattle.rules.specs.Calls.{Ruling, refuse, write, Done, outcome, after, resolveCall, textCall, writeCall}
 use Rattle.rules.specs.Cases.{AllHold, B, starred, unstarred, longBase, slips, refusals, answeredRefusal, requests, answeredRequest, addresses, ipv6Printed}
 
 -- ---- the reader accepts exactly the encodings of valid references, and gives them back
@@ -34,6 +35,10 @@ Exact =
     (lim : Limits) → lim .segments < 2 ^ 64 → (bs : Bytes) (r : Reference) → Octets bs
     → (readReference lim bs ≡ ok r) ↔ ((encode r ≡ bs) × Valid lim r)
 
+-- every refusal of the reader is numbered 1 to 7
+abbrev pub Numbers : Type 0
+Numbers = (lim : Limits) (bs : Bytes) (n k : ℕ) → read lim bs ≡ refused n k → (1 ≤ n) × (n ≤ 7)
+
 -- ---- more bytes at the end
 
 -- a refusal other than CUT is the refusal of every longer input that is not too long, at the same place
@@ -48,7 +53,7 @@ Tail =
     (lim : Limits) (p : Bytes) (b : ℕ) (q : Bytes) → Octets p → length (p ++ (b ∷ q)) ≤ lim .bytes → (f : Found)
     → read lim p ≡ ok f → read lim (p ++ (b ∷ q)) ≡ refused TAIL (length p)
 
--- ---- demand 3: two different CRIs never print as one text
+-- ---- demand 2: what was read is written again as it was, and what was written is read again as it was
 
 -- a done call
 abbrev pub done : ℕ → Done
@@ -57,6 +62,24 @@ done n = record { number = 0; length = n }
 -- the bytes that a call writes, up to the length it reports
 abbrev pub shown : Ruling → Bytes → Bytes
 shown u room = take (outcome u (length room) .length) (after u room)
+
+-- a call whose output is w: into every room that is long enough it writes w, whole
+pub record Writes (u : Ruling) (w : Bytes) : Type 0 where
+  pub ruled : u ≡ write w
+  pub told : (room : Bytes) → length w ≤ length room → outcome u (length room) ≡ done (length w)
+  pub bytes : (room : Bytes) → length w ≤ length room → shown u room ≡ w
+
+-- writing from the components that reading reports of an accepted input, with that input as the lent bytes, gives its bytes again
+abbrev pub ReadWrite : Type 0
+ReadWrite = (lim : Limits) (bs : Bytes) → Octets bs → readCall lim bs .number ≡ 0 → Writes (writeCall lim (readCall lim bs .components) bs) bs
+
+-- what was written from components is accepted, and reading it gives components with the same contents
+abbrev pub WriteRead : Type 0
+WriteRead =
+    (lim : Limits) → lim .segments < 2 ^ 64 → (c : Components) (lent w : Bytes) → length lent < 2 ^ 64 → Sized c → writeCall lim c lent ≡ write w
+    → (readCall lim w .number ≡ 0) × (mapParts (taken w) (readCall lim w .components) ≡ mapParts (taken lent) c)
+
+-- ---- demand 3: two different CRIs never print as one text
 
 -- For any two inputs that the reader accepts as absolute, with room enough, whatever the rooms hold, both URI texts are written,
 -- and they are equal, length and bytes, exactly when the two are the same CRI.

@@ -1,5 +1,5 @@
 -- RULES 9: writing from components, and the components that reading reports.
-use Prim.Native.Nat.{ℕ, _+_}
+use Prim.Native.Nat.{ℕ, _+_, _^_, _<_}
 use mathlib.Core.Bool.{Bool, _&&_}
 use mathlib.Core.List.{List, [], _∷_, _++_}
 use mathlib.Core.Option.{Option, none, some}
@@ -11,6 +11,7 @@ use Rattle.rules.specs.Model.{Scheme, number, name, Host, address, label
 use Rattle.rules.specs.Reader.{taken, Found, read}
 use Rattle.rules.specs.Meaning.{components}
 use Rattle.rules.specs.Encode.{encode}
+use Rattle.rules.specs.Valid.{If}
 
 -- ---- the texts and addresses of the parts of a reference
 
@@ -51,6 +52,23 @@ abbrev pub allTexts : {A : Type 0} → Parts A → List A
 allTexts c = openingTexts (c .opening) ++ elements (c .path) ++ elements (c .query) ++ whereSet (λ t. t ∷ []) (c .fragment)
 
 -- ---- writing
+
+-- 9.1: discard, port and scheme number are 64 bits wide
+
+-- of a scheme
+abbrev pub SizedScheme : {A : Type 0} → Scheme A → Type 0
+SizedScheme (number n) = n < 2 ^ 64
+SizedScheme (name t) = Unit {0}
+
+-- of an opening
+abbrev pub SizedOpening : {A : Type 0} → Opening A → Type 0
+SizedOpening (discard k) = k < 2 ^ 64
+SizedOpening discardAll = Unit {0}
+SizedOpening (full s a) = If SizedScheme s × If (λ a. If (λ p. p < 2 ^ 64) (a .port)) a
+
+-- of components
+abbrev pub Sized : Components → Type 0
+Sized c = SizedOpening (c .opening)
 
 -- 9.2: at most 8 labels, 32 segments, 16 parameters
 unfoldable pub counted : Limits → Components → Bool
