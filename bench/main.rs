@@ -15,6 +15,7 @@ mod items;
 mod links;
 mod read;
 mod utf8;
+mod write;
 
 // A generator with a fixed seed.
 pub struct Random(u64);
@@ -101,12 +102,13 @@ pub fn compare<I, O>(name: &str, sizes: &[usize], inputs: impl Fn(usize) -> Vec<
 fn main() {
     black_box(placement as *const ());
     let names: Vec<String> = std::env::args().skip(1).collect();
-    let parts: [(&str, fn()); 5] = [
+    let parts: [(&str, fn()); 6] = [
         ("utf8", utf8::measure),
         ("items", items::measure),
         ("escape", escape::measure),
         ("address", address::measure),
         ("read", read::measure),
+        ("write", write::measure),
     ];
     for (name, measure) in parts {
         if names.is_empty() || names.iter().any(|n| n == name) {

@@ -1,5 +1,6 @@
 //! Makes request lines from a seed: references at and around every limit, damaged ones, and lines that are no requests.
 
+mod components;
 mod damage;
 mod item;
 mod random;
@@ -24,7 +25,9 @@ impl Generator {
     fn line(&mut self) -> Vec<u8> {
         match self.random.below(1000) {
             0..20 => self.no_request().into_bytes(),
-            20..300 => self.segment_request().into_bytes(),
+            20..50 => components::damaged_request(&mut self.random).into_bytes(),
+            50..350 => components::request(&mut self.random).into_bytes(),
+            350..550 => self.segment_request().into_bytes(),
             _ => format!("read {}", hex(&self.input().bytes)).into_bytes(),
         }
     }

@@ -4,3 +4,4 @@ pub mod generate;
 pub mod lines;
 pub mod reader;
 pub mod views;
+pub mod writer;

@@ -1,10 +1,17 @@
 //! Answers requests of the line protocol (`docs/LINES.md`).
 
-use crate::reader::{read, Authority, Discard, Host, Opening, Reference, Scheme};
+mod components;
+
+use crate::reader::read;
 use crate::views;
+use crate::writer::{write, Components};
+pub use components::{write_from_answer, write_from_itself};
 
 /// The longest line that is taken, without its line feed.
 pub const MAX_LINE: usize = 65_536;
+
+/// The largest room.
+pub const MAX_ROOM: usize = 16_384;
 
 /// An answer, or why the line is no request.
 type Answer = Result<String, &'static str>;
@@ -13,7 +20,11 @@ type Answer = Result<String, &'static str>;
 type Call = fn(&mut Words) -> Answer;
 
 /// The calls known here. A new call is a function and a row.
-const CALLS: [(&str, Call); 2] = [("read", read_call), ("segment", segment_call)];
+const CALLS: [(&str, Call); 3] = [
+    ("read", read_call),
+    ("segment", segment_call),
+    ("write", write_call),
+];
 
 /// The known call that the line begins with.
 pub fn call(line: &[u8]) -> Option<&'static str> {
@@ -47,7 +58,7 @@ fn request(line: &[u8]) -> Answer {
 fn read_call(words: &mut Words) -> Answer {
     let input = words.bytes()?;
     Ok(match read(&input) {
-        Ok(reference) => format!("0{}", components(&reference)),
+        Ok(reference) => format!("0{}", components::said(&reference, &hex)),
         Err(refusal) => refusal.number().to_string(),
     })
 }
@@ -59,58 +70,39 @@ fn segment_call(words: &mut Words) -> Answer {
     Ok(format!("{number} {}", hex(view)))
 }
 
-/// The components as words, each with a space before it.
-fn components(reference: &Reference) -> String {
-    let mut words = String::new();
-    match &reference.opening {
-        Opening::Discard(Discard::All) => words += " discard all",
-        Opening::Discard(Discard::Last(count)) => words += &format!(" discard {count}"),
-        Opening::Authority(scheme, authority) => {
-            words += &scheme_words(scheme);
-            words += &authority_words(authority);
-        }
-    }
-    if let Some(path) = &reference.path {
-        words += " path";
-        words += &text_words("segment", path);
-    }
-    if let Some(query) = &reference.query {
-        words += " query";
-        words += &text_words("parameter", query);
-    }
-    if let Some(fragment) = reference.fragment {
-        words += &text_words("fragment", &[fragment]);
-    }
-    words
-}
-
-fn scheme_words(scheme: &Scheme) -> String {
-    match scheme {
-        Scheme::None => " scheme none".to_string(),
-        Scheme::Number(number) => format!(" scheme number {number}"),
-        Scheme::Text(text) => format!(" scheme text {}", hex(text.as_bytes())),
-    }
-}
-
-fn authority_words(authority: &Authority) -> String {
-    let host = match &authority.host {
-        Host::Address(address) => format!(" address {}", hex(address)),
-        Host::Labels(labels) => text_words("label", labels),
+fn write_call(words: &mut Words) -> Answer {
+    let room = words.room()?;
+    let lent = words.bytes()?;
+    let mut labels = Vec::new();
+    let opening = components::opening(words, &mut labels)?;
+    let path = components::texts(words, "path", "segment")?;
+    let query = components::texts(words, "query", "parameter")?;
+    let components = Components {
+        opening,
+        path: path.as_deref(),
+        query: query.as_deref(),
+        fragment: components::fragment(words)?,
     };
-    let port = authority
-        .port
-        .map_or(String::new(), |port| format!(" port {port}"));
-    format!(" authority{host}{port}")
+    Ok(written(room, |room| write(&components, &lent, room)))
 }
 
-fn text_words(name: &str, texts: &[&str]) -> String {
-    texts
-        .iter()
-        .map(|text| format!(" {name} {}", hex(text.as_bytes())))
-        .collect()
+/// The answer of a call that writes to a room of this length: its number, what it wrote, and whether it kept every other byte.
+fn written(length: usize, call: impl FnOnce(&mut [u8]) -> Result<usize, u8>) -> String {
+    let before: Vec<u8> = (0..length).map(|place| place as u8 ^ 0xA5).collect();
+    let mut room = before.clone();
+    let (number, length) = match call(&mut room) {
+        Ok(length) => (0, length),
+        Err(number) => (number, 0),
+    };
+    let kept = match room[length..] == before[length..] {
+        true => "kept",
+        false => "touched",
+    };
+    format!("{number} {length} {} {kept}", hex(&room[..length]))
 }
 
 /// The words of a line, each read in the form that its place asks for.
+#[derive(Clone)]
 struct Words<'a> {
     /// `None` where the last word has been taken.
     rest: Option<&'a [u8]>,
@@ -125,6 +117,16 @@ impl<'a> Words<'a> {
         };
         self.rest = Some(&rest[space + 1..]);
         Ok(&rest[..space])
+    }
+
+    /// Takes the next word where it is `name`.
+    fn next_is(&mut self, name: &str) -> bool {
+        let mut after = self.clone();
+        let is = after.next() == Ok(name.as_bytes());
+        if is {
+            *self = after;
+        }
+        is
     }
 
     fn bytes(&mut self) -> Result<Vec<u8>, &'static str> {
@@ -142,6 +144,17 @@ impl<'a> Words<'a> {
         }
         let word = std::str::from_utf8(word).map_err(|_| "not a number")?;
         word.parse().map_err(|_| "no number up to 2^64 - 1")
+    }
+
+    fn size(&mut self) -> Result<usize, &'static str> {
+        usize::try_from(self.number()?).map_err(|_| "no size of this machine")
+    }
+
+    fn room(&mut self) -> Result<usize, &'static str> {
+        match self.size()? {
+            room @ 0..=MAX_ROOM => Ok(room),
+            _ => Err("the room is too long"),
+        }
     }
 
     fn end(&self) -> Result<(), &'static str> {

@@ -15,6 +15,7 @@ const SEED: u64 = 1;
 const COUNT: u64 = 300_000;
 const USAGE: &str = "usage: compare [SEED [COUNT]]
        compare vectors REQUESTS ANSWERS
+       compare round-trip REQUESTS
        compare answer";
 
 fn main() -> ExitCode {
@@ -33,6 +34,7 @@ fn run(words: &[&str]) -> Result<(), String> {
     match *words {
         ["answer"] => answer_input().map_err(|e| e.to_string()),
         ["vectors", requests, answers] => compare_vectors(requests, answers),
+        ["round-trip", requests] => compare_round_trip(requests),
         [] => compare_generated(SEED, COUNT),
         [seed] => compare_generated(number(seed)?, COUNT),
         [seed, count] => compare_generated(number(seed)?, number(count)?),
@@ -88,6 +90,42 @@ fn compare_vectors(requests: &str, answers: &str) -> Result<(), String> {
     program::compare(sent.into_iter(), cases.into_iter())?;
     println!("equal: {tally}; left out {}; {requests}", left_out.len());
     Ok(())
+}
+
+/// Has the Rust and the program write what they read, and compares it with each accepted input of the stored `read` requests.
+fn compare_round_trip(requests: &str) -> Result<(), String> {
+    let cases: Vec<Case> = stored_lines(requests)?
+        .into_iter()
+        .filter_map(round_trip)
+        .flatten()
+        .collect();
+    if cases.is_empty() {
+        return Err(format!("{requests}: no accepted input"));
+    }
+    for case in &cases {
+        case.check("Rust", lines::answer(&case.request).as_bytes())?;
+    }
+    let inputs = cases.len() / 2;
+    let sent: Vec<_> = cases.iter().map(|case| case.request.clone()).collect();
+    program::compare(sent.into_iter(), cases.into_iter())?;
+    println!("equal: {inputs} inputs written as they were read; {requests}");
+    Ok(())
+}
+
+/// A `read` request of an accepted input, and the request to write its answer into a room that is just long enough.
+fn round_trip(request: Vec<u8>) -> Option<[Case; 2]> {
+    let input = str::from_utf8(request.strip_prefix(b"read ")?).ok()?;
+    let length = input.len() / 2;
+    let answer = lines::answer(&request);
+    let written = Case {
+        request: lines::write_from_answer(&answer, length)?.into_bytes(),
+        expected: format!("0 {length} {input} kept").into_bytes(),
+    };
+    let read = Case {
+        request,
+        expected: answer.into_bytes(),
+    };
+    Some([read, written])
 }
 
 fn stored_cases(requests: &str, answers: &str) -> Result<Vec<Case>, String> {

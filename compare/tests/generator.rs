@@ -38,6 +38,7 @@ fn every_number_comes_often() {
     for (call, numbers) in [
         ("read", &["0", "1", "2", "3", "4", "5", "6", "7"][..]),
         ("segment", &["0", "1", "2", "3", "4", "5", "6", "7", "18"]),
+        ("write", &["0", "2", "4", "5", "6", "10"]),
     ] {
         let words = first_words(call);
         let all: usize = words.values().sum();
@@ -48,6 +49,15 @@ fn every_number_comes_often() {
                 "{call}: {number} comes {often} times of {all}"
             );
         }
+    }
+}
+
+/// What is written has whole and shortest heads, and nothing after the array.
+#[test]
+fn writing_never_answers_1_3_or_7() {
+    let words = first_words("write");
+    for number in ["1", "3", "7"] {
+        assert!(!words.contains_key(number), "{number}");
     }
 }
 
@@ -164,4 +174,142 @@ fn every_limit_is_reached() {
     }
     let longest = inputs.iter().filter(|input| input.len() == 1024).count();
     assert!(longest >= 10, "input of 1,024: {longest} times");
+}
+
+/// The words of each write request that is one, and its answer's.
+fn write_requests() -> Vec<(Vec<String>, Vec<String>)> {
+    let words = |line: &str| line.split(' ').map(str::to_string).collect();
+    requests(1)
+        .filter(|request| lines::call(request) == Some("write"))
+        .map(|request| (request.clone(), lines::answer(&request)))
+        .filter(|(_, answer)| !answer.starts_with("? "))
+        .map(|(request, answer)| {
+            let request = String::from_utf8(request).expect("a request is ASCII");
+            (words(&request), words(&answer))
+        })
+        .collect()
+}
+
+/// A property of the words of a request and of its answer.
+type WriteProperty = (&'static str, fn(&[String], &[String]) -> bool);
+
+fn count(words: &[String], name: &str) -> usize {
+    words.iter().filter(|&word| word == name).count()
+}
+
+fn has(words: &[String], part: &[&str]) -> bool {
+    words.windows(part.len()).any(|words| words == part)
+}
+
+/// Whether the word after `name` is a number over `most`.
+fn over(words: &[String], name: &str, most: u64) -> bool {
+    words.windows(2).any(|pair| {
+        let number = pair[1].parse::<u64>();
+        pair[0] == name && number.is_ok_and(|number| number > most)
+    })
+}
+
+/// Starts and lengths of the spans, and the length of the lent bytes.
+fn spans(words: &[String]) -> (Vec<(u64, u64)>, u64) {
+    const TEXTS: [&str; 6] = [
+        "text", "address", "label", "segment", "parameter", "fragment",
+    ];
+    let span = |words: &[String]| {
+        let texts = TEXTS.contains(&words[0].as_str());
+        texts.then(|| (words[1].parse().unwrap(), words[2].parse().unwrap()))
+    };
+    let lent = words[2].trim_matches('-').len() as u64 / 2;
+    (words.windows(3).filter_map(span).collect(), lent)
+}
+
+fn any_span(words: &[String], holds: fn(u64, u64, u64) -> bool) -> bool {
+    let (spans, lent) = spans(words);
+    spans
+        .into_iter()
+        .any(|(start, length)| holds(start, length, lent))
+}
+
+#[test]
+fn every_limit_of_writing_is_passed() {
+    let properties: [WriteProperty; 31] = [
+        ("8 labels", |r, a| count(r, "label") == 8 && a[0] == "0"),
+        ("9 labels", |r, _| count(r, "label") == 9),
+        ("32 segments", |r, a| {
+            count(r, "segment") == 32 && a[0] == "0"
+        }),
+        ("33 segments", |r, _| count(r, "segment") == 33),
+        ("16 parameters", |r, a| {
+            count(r, "parameter") == 16 && a[0] == "0"
+        }),
+        ("17 parameters", |r, _| count(r, "parameter") == 17),
+        ("no parameters", |r, _| {
+            count(r, "query") == 1 && count(r, "parameter") == 0
+        }),
+        ("no labels", |r, _| {
+            r.last().is_some_and(|word| word == "authority")
+        }),
+        ("no labels, something after", |r, _| {
+            has(r, &["authority", "path"])
+        }),
+        ("no labels but a port", |r, _| {
+            has(r, &["authority", "port"])
+        }),
+        ("discard over", |r, _| over(r, "discard", 127)),
+        ("port over", |r, _| over(r, "port", 65535)),
+        ("scheme number over", |r, _| over(r, "number", 9)),
+        ("large scheme number", |r, _| over(r, "number", 1 << 32)),
+        ("large port", |r, _| over(r, "port", 1 << 32)),
+        ("large discard", |r, _| over(r, "discard", 1 << 32)),
+        ("no scheme and no authority", |r, _| {
+            r[3..] == ["scheme", "none"]
+        }),
+        ("the same, something after", |r, _| {
+            has(r, &["scheme", "none", "path"])
+        }),
+        ("no authority", |r, _| {
+            has(r, &["scheme", "number", "0", "path"])
+        }),
+        ("room exact", |r, a| a[0] == "0" && r[1] == a[1]),
+        ("one more than the room", |r, a| {
+            a[0] == "10" && r[1] == "1023"
+        }),
+        ("empty room", |r, a| r[1] == "0" && a[0] == "10"),
+        ("largest room", |r, a| r[1] == "16384" && a[0] == "0"),
+        ("written 1,023", |_, a| a[1] == "1023"),
+        ("written 1,024", |_, a| a[1] == "1024"),
+        ("empty span at the end", |r, a| {
+            a[0] == "0" && any_span(r, |start, length, lent| length == 0 && start == lent)
+        }),
+        ("empty span past the end", |r, _| {
+            any_span(r, |start, length, lent| length == 0 && start == lent + 1)
+        }),
+        ("span one too long", |r, _| {
+            any_span(r, |start, length, lent| {
+                start.checked_add(length) == Some(lent + 1)
+            })
+        }),
+        ("sum of 2^64", |r, _| {
+            any_span(r, |start, length, _| {
+                start != 0 && start.wrapping_add(length) == 0
+            })
+        }),
+        ("sum over 2^64", |r, _| {
+            any_span(r, |start, length, lent| {
+                start.checked_add(length).is_none() && start.wrapping_add(length) <= lent
+            })
+        }),
+        ("sum of 2^64 - 1", |r, _| {
+            any_span(r, |start, length, _| {
+                start.checked_add(length) == Some(u64::MAX)
+            })
+        }),
+    ];
+    let requests = write_requests();
+    for (name, holds) in properties {
+        let often = requests
+            .iter()
+            .filter(|(request, answer)| holds(request, answer))
+            .count();
+        assert!(often >= 5, "{name}: {often} times of {}", requests.len());
+    }
 }

@@ -1,6 +1,6 @@
 //! Requests, answers, and lines that are no requests.
 
-use compare::lines::{answer, call, MAX_LINE};
+use compare::lines::{answer, call, write_from_answer, write_from_itself, MAX_LINE};
 use compare::views::segment;
 
 #[test]
@@ -54,6 +54,62 @@ fn a_view_is_a_part_of_the_input() {
 }
 
 #[test]
+fn write_answers_what_it_wrote() {
+    let cases = [
+        ("write 1 - discard 0", "0 1 80 kept"),
+        ("write 0 - discard 0", "10 0 - kept"),
+        ("write 00016384 - discard all", "0 2 81f5 kept"),
+        ("write 9 - scheme none", "2 0 - kept"),
+        ("write 9 - discard 128 path segment 0 1", "4 0 - kept"),
+        (
+            "write 60 687a3904fe9861 scheme text 1 2 authority address 3 4 port 5683 \
+             path segment 7 0 segment 6 1 query parameter 0 1 fragment 0 0",
+            "0 21 85627a39824404fe98611916338260616181616860 kept",
+        ),
+        (
+            "write 60 6162 scheme number 9 authority label 0 1 label 1 1 query parameter 2 0",
+            "0 10 84298261616162f68160 kept",
+        ),
+    ];
+    for (request, expected) in cases {
+        assert_eq!(answer(request.as_bytes()), expected, "{request}");
+    }
+}
+
+#[test]
+fn more_texts_than_any_size_are_a_request() {
+    for (opening, text) in [
+        ("scheme none authority", "label"),
+        ("discard 0 path", "segment"),
+        ("discard 0 query", "parameter"),
+    ] {
+        let texts = format!(" {text} 0 0").repeat(2000);
+        let request = format!("write 99 - {opening}{texts}");
+        assert_eq!(answer(request.as_bytes()), "4 0 - kept", "{opening}");
+    }
+}
+
+#[test]
+fn requests_to_write_what_was_read() {
+    let input = [0x84, 0xF5, 0x82, 0x60, 0x61, b'a', 0xF6, 0x61, b'b'];
+    assert_eq!(
+        write_from_itself(&input, 9).unwrap(),
+        "write 9 84f582606161f66162 discard all path segment 4 0 segment 5 1 fragment 8 1"
+    );
+    let read = answer(b"read 84f582606161f66162");
+    assert_eq!(
+        write_from_answer(&read, 9).unwrap(),
+        "write 9 6162 discard all path segment 0 0 segment 0 1 fragment 1 1"
+    );
+    assert_eq!(
+        write_from_answer("0 discard 1 path segment -", 5).unwrap(),
+        "write 5 - discard 1 path segment 0 0"
+    );
+    assert_eq!(write_from_itself(&input[..8], 9), None);
+    assert_eq!(write_from_answer("1", 9), None);
+}
+
+#[test]
 fn no_requests() {
     let lines = [
         "",
@@ -80,6 +136,44 @@ fn no_requests() {
         "segment 80 1 1",
         "segment 0 1",
         "segment 80 100000000000000000000000000000000000000000",
+        "write",
+        "write 9",
+        "write 9 -",
+        "write 9 - ",
+        "write 9 - path",
+        "write - 9 discard 0",
+        "write 16385 - discard 0",
+        "write 18446744073709551616 - discard 0",
+        "write 9 - discard",
+        "write 9 - discard -",
+        "write 9 - discard 0 ",
+        "write 9 - discard 0 0",
+        "write 9 - discard all all",
+        "write 9 - discard 0 authority",
+        "write 9 - discard 0 segment 0 0",
+        "write 9 - discard 0 path segment 0",
+        "write 9 - discard 0 path segment - 0",
+        "write 9 - discard 0 path parameter 0 0",
+        "write 9 - discard 0 path path",
+        "write 9 - discard 0 query parameter 0 0 path",
+        "write 9 - discard 0 fragment",
+        "write 9 - discard 0 fragment 0",
+        "write 9 - discard 0 fragment 0 18446744073709551616",
+        "write 9 - discard 0 fragment 0 0 fragment 0 0",
+        "write 9 - discard 0 fragment 0 0 query",
+        "write 9 - scheme",
+        "write 9 - scheme 0",
+        "write 9 - scheme none 0",
+        "write 9 - scheme number",
+        "write 9 - scheme text 0",
+        "write 9 - scheme none address 0 0",
+        "write 9 - scheme none authority address 0",
+        "write 9 - scheme none authority address 0 0 label 0 0",
+        "write 9 - scheme none authority label 0 0 address 0 0",
+        "write 9 - scheme none authority port",
+        "write 9 - scheme none authority port 0 port 0",
+        "write 9 - scheme none authority port 0 label 0 0",
+        "write 9 - authority label 0 0",
         "\u{e9}",
     ];
     for line in lines {
@@ -99,6 +193,7 @@ fn the_longest_line() {
 fn known_calls() {
     assert_eq!(call(b"read 80"), Some("read"));
     assert_eq!(call(b"segment"), Some("segment"));
+    assert_eq!(call(b"write 0 -"), Some("write"));
     assert_eq!(call(b"reads 80"), None);
     assert_eq!(call(b""), None);
 }

@@ -116,3 +116,24 @@ fn stored_answers() {
         "no request of a known call",
     );
 }
+
+#[test]
+fn a_round_trip() {
+    let run = |test: &str, fault: &str, requests: &str| {
+        let [requests, _] = vectors(test, requests, "");
+        compare(fault, &["round-trip", &requests])
+    };
+    let requests = "read 82f58160\nlater 80\nread 81f6\nread 80\n";
+    equal(
+        &run("round_trip", "none", requests),
+        "equal: 2 inputs written as they were read; ",
+    );
+    different(
+        &run("round_trip_wrong", "later", requests),
+        "expected: 0 1 80 kept\nprogram: 1 1 80 kept",
+    );
+    different(
+        &run("round_trip_nothing", "none", "read 81f6\n"),
+        "no accepted input",
+    );
+}

@@ -11,5 +11,6 @@ short) "$COMPARE" answer | head -c -1 ;;
 extra) "$COMPARE" answer && echo 0 ;;
 code) "$COMPARE" answer && exit 3 ;;
 signal) "$COMPARE" answer && kill -9 $$ ;;
+later) "$COMPARE" answer | sed '4s/0/1/' ;;
 silent) exit 0 ;;
 esac

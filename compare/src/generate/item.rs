@@ -11,6 +11,7 @@ pub enum Item {
 }
 
 /// An encoding, and where its heads begin.
+#[derive(Default)]
 pub struct Encoded {
     pub bytes: Vec<u8>,
     pub heads: Vec<usize>,
@@ -18,16 +19,21 @@ pub struct Encoded {
 
 impl Item {
     pub fn encoded(&self) -> Encoded {
-        let mut encoded = Encoded {
-            bytes: Vec::new(),
-            heads: Vec::new(),
-        };
+        let mut encoded = Encoded::default();
         encoded.put(self);
         encoded
     }
 }
 
 impl Encoded {
+    /// The encoding of an array.
+    pub fn array(items: &[Item]) -> Self {
+        let mut encoded = Encoded::default();
+        encoded.heads.push(0);
+        encoded.put_items(items);
+        encoded
+    }
+
     fn put(&mut self, item: &Item) {
         self.heads.push(self.bytes.len());
         match item {
@@ -35,13 +41,15 @@ impl Encoded {
             Item::Negative(n) => self.bytes.extend(head(1, *n)),
             Item::Bytes(content) => self.put_content(2, content),
             Item::Text(content) => self.put_content(3, content),
-            Item::Array(items) => {
-                self.bytes.extend(head(4, items.len() as u64));
-                items.iter().for_each(|item| self.put(item));
-            }
+            Item::Array(items) => self.put_items(items),
             Item::True => self.bytes.push(0xF5),
             Item::Null => self.bytes.push(0xF6),
         }
+    }
+
+    fn put_items(&mut self, items: &[Item]) {
+        self.bytes.extend(head(4, items.len() as u64));
+        items.iter().for_each(|item| self.put(item));
     }
 
     fn put_content(&mut self, major: u8, content: &[u8]) {

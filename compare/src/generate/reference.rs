@@ -3,10 +3,21 @@
 use super::item::{Encoded, Item};
 use super::random::Random;
 
-/// A reference, and how many segments its path has.
+/// A reference, its items, and how many segments its path has.
 pub struct Made {
     pub encoded: Encoded,
+    pub items: Vec<Item>,
     pub segments: usize,
+}
+
+impl Made {
+    fn of(items: Vec<Item>, segments: usize) -> Self {
+        Made {
+            encoded: Encoded::array(&items),
+            items,
+            segments,
+        }
+    }
 }
 
 /// A reference with at most `slips` faults, each at a random place. Without slips it is refused only where its labels together are too
@@ -129,10 +140,7 @@ impl Maker<'_> {
             let item = self.stranger();
             items.insert(place, item);
         }
-        Made {
-            encoded: Item::Array(items).encoded(),
-            segments,
-        }
+        Made::of(items, segments)
     }
 
     /// Leaves off the nulls at the end and a lone 0, but for a slip.
@@ -164,10 +172,7 @@ impl Maker<'_> {
         let segments = path.len();
         items.push(Item::Array(path));
         items.extend(after);
-        Made {
-            encoded: Item::Array(items).encoded(),
-            segments,
-        }
+        Made::of(items, segments)
     }
 
     /// Fewer than 24 texts whose encodings have `left` bytes together.

@@ -7,10 +7,10 @@ fn show_ipv6(a: &[u8]) {
         return;
     }
     let mut room = [0; 64];
-    let n = address::put_ipv6(&mut room, 0, a, 0);
+    let n = ipv6::put_ipv6(&mut room, 0, a, 0);
     io::write_all(1, &room[..n]);
     io::write_all(1, b" ");
-    io::print_decimal(1, address::ipv6_length(a, 0) as u64);
+    io::print_decimal(1, ipv6::ipv6_length(a, 0) as u64);
     io::write_all(1, b"\n");
 }
 
@@ -21,10 +21,10 @@ fn show_ipv4(a: &[u8]) {
         return;
     }
     let mut room = [0; 32];
-    let n = address::put_ipv4(&mut room, 0, a, 0);
+    let n = ipv4::put_ipv4(&mut room, 0, a, 0);
     io::write_all(1, &room[..n]);
     io::write_all(1, b" ");
-    io::print_decimal(1, address::ipv4_length(a, 0) as u64);
+    io::print_decimal(1, ipv4::ipv4_length(a, 0) as u64);
     io::write_all(1, b"\n");
 }
 

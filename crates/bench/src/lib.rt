@@ -173,5 +173,5 @@ pub extern "C" fn bench_put_ipv6(room: &mut [u8], src: &[u8]) -> usize
     requires { ⌜ (16 ≤ length (now src)) × (49 ≤ length (now room)) ⌝ }
     ensures { λ r. ⌜ Wrote (now (room .entry)) 0 (ipv6Text (part (now (src .entry)) 0 16)) (now (room .exit)) r ⌝ }
 {
-    address::put_ipv6(room, 0, src, 0)
+    ipv6::put_ipv6(room, 0, src, 0)
 }

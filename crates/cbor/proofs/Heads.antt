@@ -5,18 +5,16 @@ use native.Mathlib.Decide.{decLe}
 use native.Mathlib.Nat.{pow-le-pow-right}
 use mathlib.Core.Path.{_≡_, refl, sym, ap, ap₂, _∙_, subst, fun-ext}
 use mathlib.Core.Bool.{Bool, true, false}
-use mathlib.Core.List.{[], _++_}
-use lib.ListN.{length, getD, drop, length-drop, length-append}
-use lib.Seq.{drop-append-seam}
+use lib.ListN.{length, getD}
 use lib.Dec.{ltb, lit<}
 use borrow.Author.Tests.{lt-ltb, le-ltb, le-leb, lt-leb, eq-eqb, ne-eqb}
 use Rattle.rules.specs.Bytes.{Bytes, Octets, part, numberFrom}
-use Rattle.rules.specs.Result.{Res, refused, ok, _>>=_, CUT, FORM, HEAD}
-use Rattle.rules.specs.Head.{Kind, Number, Negative, ByteString, Text, Array, True, Null, Other, Head, width, shortest, valueFrom, kindAt, infoAt, widthAt, valueAt, headAt, readHead, majorOf, headBytes}
+use Rattle.rules.specs.Result.{Res, refused, CUT, FORM, HEAD}
+use Rattle.rules.specs.Head.{Kind, Number, Negative, ByteString, Text, Array, True, Null, Other, Head, width, shortest, valueFrom, kindAt, infoAt, widthAt, valueAt, headAt, readHead}
 use Rattle.rules.specs.Reader.{spanAt}
 use Rattle.rules.proofs.Tools.{tests, cond-split, cond-yes, cond-no, length-part, octets-part, never}
-use Rattle.rules.proofs.Steps.{need-yes, need-no, ok-at, yes!, yes-use}
-use Rattle.rules.proofs.Heads.{Lead, lead, Fits, Stands, head-ok, small-value, length-big, Spelled, spelled, yes-head}
+use Rattle.rules.proofs.Steps.{need-yes, need-no, ok-at}
+use Rattle.rules.proofs.Heads.{Lead, lead, Fits, Stands, head-ok, small-value}
 use Rattle.rules.proofs.Texts.{ItemStands}
 use Rattle.cbor.specs.Heads.{accepted, spanIs, leastOf, ifShortest, readArgument}
 use Rattle.cbor.proofs.Numbers.{number-below}
@@ -35,22 +33,6 @@ shortest-small v h = cond-yes (ltb v 24) v _ (lt-ltb v 24 h)
 -- the head information of a head with w bytes after the first
 abbrev pub Sized : ℕ → ℕ → Type 0
 Sized i w = (24 ≤ i) × (i < 28) × (width i ≡ w)
-
-pub sized-1 : Sized 24 1
-unfolding width
-sized-1 = (omega arith, omega arith, refl)
-
-pub sized-2 : Sized 25 2
-unfolding width
-sized-2 = (omega arith, omega arith, refl)
-
-pub sized-4 : Sized 26 4
-unfolding width
-sized-4 = (omega arith, omega arith, refl)
-
-pub sized-8 : Sized 27 8
-unfolding width
-sized-8 = (omega arith, omega arith, refl)
 
 -- the numbers whose shortest head has 1, 2, 4 and 8 bytes after the first
 module _ (v : ℕ) where
@@ -111,33 +93,9 @@ pub least : (i : ℕ) → 24 ≤ i → i < 28 → Least i
 unfolding width leastOf
 least = cases Least (λ v h. (λ l. shortest-1 v l h, under-1 v)) (λ v h. (λ l. shortest-2 v l h, under-2 v)) (λ v h. (λ l. shortest-4 v l h, under-4 v)) (λ v h. (shortest-8 v, under-8 v))
 
-pub shortest-most : (v : ℕ) → shortest v < 28
-unfolding shortest
-shortest-most v =
-    cond-split (λ (i : ℕ). i < 28) (ltb v 24) (λ t. omega tests)
-    (λ f. cond-split (λ (i : ℕ). i < 28) (ltb v 256) (λ t. omega arith)
-    (λ f. cond-split (λ (i : ℕ). i < 28) (ltb v 65536) (λ t. omega arith)
-    (λ f. cond-split (λ (i : ℕ). i < 28) (ltb v 4294967296) (λ t. omega arith) (λ f. omega arith))))
-
 pub width-most : (i : ℕ) → i < 28 → width i ≤ 8
 unfolding width
 width-most i h = cond-split (λ (w : ℕ). w ≤ 8) (ltb i 24) (λ t. omega arith) (λ f. pow-le-pow-right {n = 2} (lit< tt) {j = 3} (omega arith))
-
-pub major-most : (k : Kind) → majorOf k ≤ 7
-unfolding majorOf
-major-most Number = omega arith
-major-most Negative = omega arith
-major-most ByteString = omega arith
-major-most Text = omega arith
-major-most Array = omega arith
-major-most True = omega arith
-major-most Null = omega arith
-major-most Other = omega arith
-
--- how long the shortest head is, by its head information
-pub length-head : (k : Kind) (v i w : ℕ) → shortest v ≡ i → width i ≡ w → 1 + w ≡ length (headBytes k v)
-unfolding headBytes
-length-head k v i w s e = omega (arith, length-big (width (shortest v)) v [], ap width s ∙ e)
 
 -- ---- after the kind, by the head information
 
@@ -308,24 +266,3 @@ same-kinds p q a b c d e f g h = fun-ext each
     each True = f
     each Null = g
     each Other = h
-
-bind-self : {A : Type 0} (m : Res A) → (m >>= ok) ≡ m
-unfolding _>>=_
-bind-self (refused n k) = refl
-bind-self (ok a) = refl
-
--- a head that was written is read back
-pub head-back : (allowed : Kind → Bool) (k : Kind) (v : ℕ) (before after : Bytes) → Fits k v → allowed k ≡ true
-    → readHead allowed (before ++ (headBytes k v ++ after)) (length before) ≡ accepted k v (length before + length (headBytes k v))
-head-back allowed k v before after f a =
-    let bs : Bytes = before ++ (headBytes k v ++ after) in
-    let at : ℕ = length before in
-    let s : Spelled k v bs at after = spelled k v bs at after f (drop-append-seam before (headBytes k v ++ after)) in
-    let y = yes-use (yes-head {Q = λ h. h ≡ headAt bs at} allowed bs at ok (s .stands allowed a) (yes! refl)) in
-    let l : length (drop (headAt bs at .next) bs) ≡ length after = ap length (s .rest) in
-    let n : headAt bs at .next ≡ length before + length (headBytes k v) =
-    omega (arith, l, s .inside, length-drop (headAt bs at .next) bs, length-append before (headBytes k v ++ after), length-append (headBytes k v) after) in
-    sym (bind-self (readHead allowed bs at)) ∙ y .1 ∙ ap ok (y .2 ∙ same (headAt bs at) (s .kind) (s .value) n)
-  where
-    same : (h : Head) {k : Kind} {v n : ℕ} → h .kind ≡ k → h .value ≡ v → h .next ≡ n → h ≡ record { kind = k; value = v; next = n }
-    same h a b c = λ i. record { kind = a i; value = b i; next = c i }

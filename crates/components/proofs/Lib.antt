@@ -1,2 +1,2 @@
-mod Answers
+pub mod Contents
 mod Filling

@@ -10,12 +10,17 @@
 //    5  a text that is not UTF-8
 //    6  an unknown scheme number, or a broken rule of a scheme, a label or a segment
 //    7  bytes after the array
+//   10  the room is shorter than the output
 //   18  a path segment that is not there
 ghost use mathlib.Core.Path.{_≡_};
+ghost use lib.ListN.{length};
+ghost use Rattle.rules.specs.Calls.{outcome, after, writeCall};
 ghost use Rattle.rules.specs.Model.{limits};
 ghost use Rattle.rules.specs.Writing.{readCall};
 ghost use Rattle.rules.specs.Views.{segmentView, segmentShown, numberOf};
+ghost use Rattle.components.specs.Content.{componentsOf};
 ghost use Rattle.components.specs.Layout.{readingLaid};
+ghost use Rattle.outcomes.specs.Answer.{doneIs};
 ghost use Rattle.views.specs.Parts.{PartOf};
 pub use cbor::Span;
 pub use components::Authority;
@@ -25,6 +30,7 @@ pub use components::Opening;
 pub use components::Reading;
 pub use components::Scheme;
 pub use components::Texts;
+pub use outcomes::Done;
 pub use reader::Port;
 
 // Reads a CRI reference: 0 and its components; or a number from 1 to 7, and every component unset.
@@ -33,6 +39,16 @@ pub fn read(s: &[u8]) -> Reading
     ensures { λ r. ⌜ r ≡ readingLaid (readCall limits (now (s .entry))) ⌝ }
 {
     components::read(s)
+}
+
+// Writes a CRI reference from components, whose texts and addresses stand in `lent`, into the room: 0 and the length written. Or it
+// refuses, with length 0, and the room is as it was: 4 where a count is over its size or a span lies outside `lent`; the number from
+// 1 to 7 that `read` has for the encoding; 10 where the room is shorter than the encoding.
+pub fn write(components: Components, lent: &[u8], room: &mut [u8]) -> Done
+    ensures { λ r. ⌜ doneIs r ≡ outcome (writeCall limits (componentsOf components) (now (lent .entry))) (length (now (room .entry))) ⌝ }
+    ensures { λ _. ⌜ now (room .exit) ≡ after (writeCall limits (componentsOf components) (now (lent .entry))) (now (room .entry)) ⌝ }
+{
+    writer::write(components, lent, room)
 }
 
 // The n-th path segment of a reference, from 0: the part of s that holds its bytes. Where `segment_number` is not 0, the empty

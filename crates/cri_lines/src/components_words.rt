@@ -1,6 +1,5 @@
 // Components as words.
 ghost use Prim.Native.Nat.{_≤_};
-use crate::line::least;
 use crate::output::Output;
 use crate::output::put_bytes;
 use crate::output::put_number;
@@ -13,6 +12,7 @@ use cri::Port;
 use cri::Scheme;
 use cri::Span;
 use cri::Texts;
+use request_words::least;
 
 // The texts that stand in arrays.
 enum Group {
@@ -22,7 +22,7 @@ enum Group {
 }
 
 // The bytes of a span, where it lies inside s.
-fn put_span(out: &mut Output, used: usize, s: &[u8], span: Span) -> usize
+pub fn put_span(out: &mut Output, used: usize, s: &[u8], span: Span) -> usize
     requires { ⌜ used ≤ 65536 ⌝ }
     ensures { λ r. ⌜ r ≤ 65536 ⌝ }
 {

@@ -3,16 +3,16 @@ ghost use Prim.Native.Nat.{_≤_};
 ghost use lib.ListN.{length};
 
 mod components_words;
-mod line;
 mod output;
 mod requests;
+mod room;
 
-use line::find;
-use line::least;
 use output::Output;
 use output::flush;
 use output::put_byte;
 use output::put_text;
+use request_words::find;
+use request_words::least;
 
 // The answer to one line.
 fn answer_line(out: &mut Output, used: usize, line: &[u8]) -> usize

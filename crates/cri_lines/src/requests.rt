@@ -1,18 +1,22 @@
 // The requests. A new one is a function here and a line of `answer`.
 ghost use Prim.Native.Nat.{_≤_};
 use crate::components_words::put_components;
-use crate::line::Cursor;
-use crate::line::Fault;
-use crate::line::find;
-use crate::line::finish;
-use crate::line::is_fault;
-use crate::line::take_bytes;
-use crate::line::take_number;
 use crate::output::Output;
 use crate::output::put_byte;
 use crate::output::put_bytes;
 use crate::output::put_number;
 use crate::output::put_text;
+use crate::room::fill;
+use crate::room::put_done;
+use crate::room::take_room;
+use request_words::Cursor;
+use request_words::Fault;
+use request_words::find;
+use request_words::finish;
+use request_words::is_fault;
+use request_words::take_bytes;
+use request_words::take_components;
+use request_words::take_number;
 
 // Why a line is no request.
 fn put_fault(out: &mut Output, used: usize, fault: Fault) -> usize
@@ -27,6 +31,8 @@ fn put_fault(out: &mut Output, used: usize, fault: Fault) -> usize
         Fault::TooLong => put_text(out, used, b"? bytes too long"),
         Fault::NotDecimal => put_text(out, used, b"? not a decimal number"),
         Fault::TooLarge => put_text(out, used, b"? a number over 64 bits"),
+        Fault::RoomTooLarge => put_text(out, used, b"? room over 16384 bytes"),
+        Fault::Unknown => put_text(out, used, b"? a word that may not stand there"),
         Fault::TooMany => put_text(out, used, b"? too many words"),
         Fault::None => used,
     }
@@ -77,6 +83,46 @@ fn segment(out: &mut Output, used: usize, line: &[u8], c: Cursor) -> usize
     put_bytes(out, b, cri::segment(s, k))
 }
 
+// The answer of `write` into this room, from the words of the components on.
+fn write_to(
+    out: &mut Output,
+    used: usize,
+    room: &mut [u8],
+    lent: &[u8],
+    line: &[u8],
+    c: Cursor,
+) -> usize
+    requires { ⌜ used ≤ 65536 ⌝ }
+    ensures { λ r. ⌜ r ≤ 65536 ⌝ }
+{
+    let given = take_components(line, c);
+    let rest = given.rest;
+    let fault = finish(line, rest);
+    if is_fault(fault) {
+        return put_fault(out, used, fault);
+    }
+    let components = given.components;
+    let done = cri::write(components, lent, room);
+    put_done(out, used, room, done)
+}
+
+// write ROOM LENT WORD..
+fn write(out: &mut Output, used: usize, line: &[u8], c: Cursor) -> usize
+    requires { ⌜ used ≤ 65536 ⌝ }
+    ensures { λ r. ⌜ r ≤ 65536 ⌝ }
+{
+    let mut lent = [0u8; 32768];
+    let mut room = [0u8; 16384];
+    fill(&mut room);
+    let size = take_room(&room, line, c);
+    let second = size.rest;
+    let bytes = take_bytes(&mut lent, line, second);
+    let third = bytes.rest;
+    let k = size.length;
+    let n = bytes.length;
+    write_to(out, used, &mut room[..k], &lent[..n], line, third)
+}
+
 // The answer to a line, by its first word.
 pub fn answer(out: &mut Output, used: usize, line: &[u8]) -> usize
     requires { ⌜ used ≤ 65536 ⌝ }
@@ -93,6 +139,9 @@ pub fn answer(out: &mut Output, used: usize, line: &[u8]) -> usize
     }
     if check::same(name, b"segment") {
         return segment(out, used, line, c);
+    }
+    if check::same(name, b"write") {
+        return write(out, used, line, c);
     }
     if line.len() == 0 {
         return put_text(out, used, b"? an empty line");

@@ -5,7 +5,7 @@ use lib.Seq.{length-take-le}
 use denote.Ref.{now}
 use Rattle.rules.proofs.Tools.{octets-of}
 use Rattle.put.proofs.Laws.{wrote-length}
-use Rattle.address.proofs.Texts.{ipv4-fits}
+use Rattle.ipv4.proofs.Texts.{ipv4-fits}
 use borrow.Author.Needs.{needs}
 use Rattle.address_cases.proofs.show_ipv4.Statement.{statement}
 use Rattle.address_cases.proofs.show_ipv4.Tie as tie

@@ -4,7 +4,7 @@ use mathlib.Core.Path.{sym}
 use lib.Seq.{length-take-le}
 use denote.Ref.{now}
 use Rattle.put.proofs.Laws.{wrote-length}
-use Rattle.address.proofs.Texts.{ipv6-fits}
+use Rattle.ipv6.proofs.Texts.{ipv6-fits}
 use borrow.Author.Needs.{needs}
 use Rattle.address_cases.proofs.show_ipv6.Statement.{statement}
 use Rattle.address_cases.proofs.show_ipv6.Tie as tie

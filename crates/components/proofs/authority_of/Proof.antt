@@ -1,6 +1,6 @@
 -- `components::authority_of` meets its contract.
 use Rattle.rules.proofs.Texts.{length-spans}
-use Rattle.components.proofs.Answers.{port-laid}
+use Rattle.components.proofs.Contents.{port-laid}
 use borrow.Author.Needs.{needs}
 use Rattle.components.proofs.authority_of.Statement.{statement}
 use Rattle.components.proofs.authority_of.Tie as tie

@@ -2,13 +2,13 @@
 use native.Mathlib.Omega.{arith}
 use mathlib.Core.Path.{sym, ap, _∙_}
 use denote.Ref.{now}
+use Rattle.rules.proofs.Numbers.{call-accepted, call-refused}
 use Rattle.rules.proofs.Standing.{stands}
 use Rattle.rules.proofs.Steps.{ok-at}
 use Rattle.rules.proofs.Tools.{octets-of}
 use Rattle.rules.specs.Model.{limits}
 use Rattle.reader.specs.Code.{answerIs}
 use Rattle.components.specs.Layout.{readingLaid}
-use Rattle.components.proofs.Answers.{call-accepted, call-refused}
 use borrow.Author.Needs.{needs}
 use Rattle.components.proofs.read.Statement.{statement}
 use Rattle.components.proofs.read.Tie as tie

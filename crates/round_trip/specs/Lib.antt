@@ -1,0 +1,2 @@
+-- What writing a reference that was read answers.
+pub mod Again

@@ -1,0 +1,4 @@
+mod Laws
+mod Items
+mod Texts
+mod Rulings

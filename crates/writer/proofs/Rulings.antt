@@ -1,0 +1,61 @@
+-- What the rules say of components, by what became of their encoding.
+use Prim.Native.Nat.{ℕ, _≤_, _<_}
+use native.Mathlib.Omega.{arith}
+use mathlib.Core.Path.{_≡_, refl, sym, ap, _∙_}
+use mathlib.Core.Bool.{Bool}
+use lib.ListN.{length, take, drop}
+use lib.Seq.{length-sets, take-at}
+use lib.Dec.{leb}
+use borrow.Author.Tests.{lt-leb, leb-true, leb-false}
+use Rattle.rules.specs.Bytes.{Bytes, all}
+use Rattle.rules.specs.Result.{refused, ok, need, _>>_, LIMIT}
+use Rattle.rules.specs.Model.{Components, mapParts, limits}
+use Rattle.rules.specs.Reader.{taken, Found, read}
+use Rattle.rules.specs.Encode.{encode}
+use Rattle.rules.specs.Writing.{counted, inside, allTexts, placeless, written}
+use Rattle.rules.specs.Calls.{refuse, write, ruling, writeCall}
+use Rattle.rules.proofs.Steps.{need-no}
+use Rattle.rules.proofs.Tools.{by-test}
+use Rattle.put.proofs.Laws.{wrote-all}
+use Rattle.writer.specs.Added.{Added}
+use Rattle.writer.specs.Items.{May}
+
+-- RULES 4.1: an encoding over the largest is 4
+long-refused : (bs : Bytes) → 1024 < length bs → read limits bs ≡ refused LIMIT (limits .bytes)
+unfolding read
+long-refused bs h = sym (need-no _ _ _ _ (lt-leb (length bs) 1024 h))
+
+module _ (lent : Bytes) (c : Components) where
+  abbrev w : Bytes
+  w = encode (mapParts (taken lent) c)
+
+  pub ruled-refused : (k j : ℕ) → May lent c → read limits w ≡ refused k j → writeCall limits c lent ≡ refuse k
+  unfolding writeCall written need _>>_
+  ruled-refused k j g e = rw (g .0, g .1, e)
+
+  pub ruled-written : (f : Found) → May lent c → read limits w ≡ ok f → writeCall limits c lent ≡ write w
+  unfolding writeCall written need _>>_
+  ruled-written f g e = rw (g .0, g .1, e)
+
+  pub ruled-over : (May lent c → length w ≤ 1024 → ⊥) → writeCall limits c lent ≡ refuse LIMIT
+  unfolding writeCall written need _>>_
+  ruled-over never =
+      by-test (λ (t : Bool). ruling (need t LIMIT 0 >> (need (all (inside lent) (allTexts c)) LIMIT 0 >> (placeless (read limits w) >> ok w))) ≡ refuse LIMIT) (counted limits c)
+      (λ n. by-test (λ (t : Bool). ruling (need t LIMIT 0 >> (placeless (read limits w) >> ok w)) ≡ refuse LIMIT) (all (inside lent) (allTexts c))
+      (λ i. by-test (λ (t : Bool). leb (length w) 1024 ≡ t → ruling (placeless (read limits w) >> ok w) ≡ refuse LIMIT) (leb (length w) 1024)
+      (λ _ e. absurd (never (n, i) (leb-true (length w) 1024 e)))
+      (λ _ e. rw (long-refused w (leb-false (length w) 1024 e))) refl)
+      (λ _. refl))
+      (λ _. refl)
+
+  -- where all may be added and fits, the array holds the encoding
+  pub made : {room after : Bytes} {n : ℕ} → length room ≡ 1024 → n ≤ 1024 → Added room 0 (May lent c) w after n → (n ≡ length w) × (take n after ≡ w)
+  made {room} {after} {n} size h p =
+      let g = p .good h in
+      let f = p .fits h in
+      let all = wrote-all {a = room} {b = after} {w = w} {k = n} (record { bytes = p .bytes g f; place = p .place g f }) (omega arith) in
+      (all .0, ap (take n) (all .1) ∙ take-at w (drop (length w) room) n (sym (all .0)))
+
+  -- and is as long as before
+  pub made-size : {room after : Bytes} {n : ℕ} → length room ≡ 1024 → n ≤ 1024 → Added room 0 (May lent c) w after n → length after ≡ 1024
+  made-size {room} {after} {n} size h p = ap length (p .bytes (p .good h) (p .fits h)) ∙ length-sets room 0 w ∙ size

@@ -1,0 +1,58 @@
+-- `writer::add_authority` meets its contract.
+use mathlib.Core.Path.{refl, sym, ap}
+use Rattle.rules.specs.Bytes.{concat}
+use Rattle.writer.proofs.Laws.{added-none, added-as}
+use Rattle.writer.proofs.Items.{none-lie, one-lies, one-lying, one-item, no-authority, null-authority}
+use Rattle.writer.specs.Items.{authorityItems}
+use borrow.Author.Needs.{needs}
+use Rattle.writer.proofs.add_authority.Statement.{statement}
+use Rattle.writer.proofs.add_authority.Tie as tie
+
+enum-told : tie.Need-enum-told
+enum-told c = search needs
+
+add-null-requires : tie.Need-add-null-requires
+add-null-requires c κs = search needs
+
+enum-known-authority : tie.Need-enum-known-authority
+enum-known-authority c = search needs
+
+add-address-requires : tie.Need-add-address-requires
+add-address-requires c κs = search needs
+
+enum-known-authority-2 : tie.Need-enum-known-authority-2
+enum-known-authority-2 c = search needs
+
+add-name-requires : tie.Need-add-name-requires
+add-name-requires c κs = search needs
+
+returns : tie.Need-returns
+unfolding concat
+returns c = rw (c .before .enum-told .given .1) (added-as (λ _. (refl, none-lie _)) (λ _. tt) (λ _. sym (ap concat (no-authority _ (c .if1 .taken)))) added-none)
+
+returns-2 : tie.Need-returns-2
+unfolding concat
+returns-2 c = rw (c .before .before .before .enum-told .given .1) (added-as (λ _. (refl, none-lie _)) (λ _. tt) (λ _. sym (ap concat (null-authority _ (c .before .before .if1 .left)))) (c .add-null .ensures))
+
+returns-3 : tie.Need-returns-3
+unfolding authorityItems
+returns-3 c = rw (c .before .before .before .authority .given .1) (added-as (λ g. (refl, one-lies _ _ g)) (λ g. one-lying _ _ (g .1)) (λ _. one-item _) (c .add-address .ensures))
+
+returns-4 : tie.Need-returns-4
+unfolding authorityItems
+returns-4 c = rw (c .before .before .before .authority2 .given .1) (added-as (λ g. g) (λ g. g) (λ _. one-item _) (c .add-name .ensures))
+
+pub add-authority-spec : {M : Type 1} → statement M
+add-authority-spec =
+    tie.close
+    (tie.spec
+    enum-told
+    add-null-requires
+    enum-known-authority
+    add-address-requires
+    enum-known-authority-2
+    add-name-requires
+    returns
+    returns-2
+    returns-3
+    returns-4)

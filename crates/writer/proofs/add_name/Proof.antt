@@ -1,0 +1,42 @@
+-- `writer::add_name` meets its contract.
+use native.Mathlib.Omega.{arith}
+use Rattle.writer.proofs.Laws.{added-over, added-as, added-then}
+use Rattle.writer.proofs.Items.{few-most, few, labels-said, port-most}
+use borrow.Author.Needs.{needs}
+use Rattle.writer.proofs.add_name.Statement.{statement}
+use Rattle.writer.proofs.add_name.Tie as tie
+
+returns : tie.Need-returns
+returns c = added-over _ (λ g h. omega (arith, few-most _ _ _ _ g))
+
+port-items-requires : tie.Need-port-items-requires
+port-items-requires c κs = search needs
+
+add-add-head : tie.Need-add-add-head
+add-add-head c = let h = port-most _ (c .port-items .ensures) in omega (arith, h)
+
+add-head-requires : tie.Need-add-head-requires
+add-head-requires c κs = search needs
+
+add-labels-requires : tie.Need-add-labels-requires
+add-labels-requires c κs = search needs
+
+add-port-requires : tie.Need-add-port-requires
+add-port-requires c κs = search needs
+
+returns-2 : tie.Need-returns-2
+returns-2 c =
+    added-as (λ g. few _ _ _ _ (omega arith) (g .0 .1)) (λ g. ((tt, g .1), tt)) (λ _. labels-said _ _ _ _ _ (c .before .before .before .before .before .port-items .ensures))
+    (added-then (added-then (c .before .before .before .before .add-head .ensures) (c .before .before .add-labels .ensures)) (c .add-port .ensures))
+
+pub add-name-spec : {M : Type 1} → statement M
+add-name-spec =
+    tie.close
+    (tie.spec
+    returns
+    port-items-requires
+    add-add-head
+    add-head-requires
+    add-labels-requires
+    add-port-requires
+    returns-2)

@@ -1,0 +1,66 @@
+-- `writer::add_opening` meets its contract.
+use mathlib.Core.Path.{refl}
+use denote.Ref.{now}
+use Rattle.rules.specs.Bytes.{bigEndian, concat}
+use Rattle.rules.specs.Head.{headBytes, majorOf, shortest, width}
+use Rattle.components.specs.Content.{schemeOf, authorityOf}
+use Rattle.writer.specs.Items.{openingItems}
+use Rattle.writer.proofs.Laws.{added-as, added-then}
+use Rattle.writer.proofs.Items.{none-lie, opening-may, opening-each}
+use borrow.Author.Needs.{needs}
+use Rattle.writer.proofs.add_opening.Statement.{statement}
+use Rattle.writer.proofs.add_opening.Tie as tie
+
+enum-known-opening : tie.Need-enum-known-opening
+enum-known-opening c = search needs
+
+add-discard-requires : tie.Need-add-discard-requires
+add-discard-requires c κs = search needs
+
+enum-told : tie.Need-enum-told
+enum-told c = search needs
+
+add-head-requires : tie.Need-add-head-requires
+add-head-requires c κs = search needs
+
+enum-known-opening-2 : tie.Need-enum-known-opening-2
+enum-known-opening-2 c = search needs
+
+add-scheme-requires : tie.Need-add-scheme-requires
+add-scheme-requires c κs = search needs
+
+add-authority-requires : tie.Need-add-authority-requires
+add-authority-requires c κs = search needs
+
+returns : tie.Need-returns
+unfolding openingItems
+returns c = rw (c .before .before .before .opening .given .1) (added-as (λ _. (refl, none-lie _)) (λ _. tt) (λ _. refl) (c .add-discard .ensures))
+
+returns-2 : tie.Need-returns-2
+unfolding openingItems concat headBytes majorOf shortest width bigEndian
+returns-2 c = rw (c .before .before .enum-told .given .1) (added-as (λ _. (refl, none-lie _)) (λ _. tt) (λ _. refl) (c .add-head .ensures))
+
+returns-3 : tie.Need-returns-3
+unfolding openingItems concat
+returns-3 c =
+    rw (c .before .before .before .before .before .opening2 .given .1)
+    (let v = c .before .before .before .before .before .opening2 .given .0 in
+    let a = c .before .before .before .before .before .before .before .before .args in
+    let may = opening-may (now (a .lent)) (schemeOf (v .0)) (authorityOf (a .labels) (v .1 .0)) in
+    let each = opening-each (now (a .lent)) (schemeOf (v .0)) (authorityOf (a .labels) (v .1 .0)) in
+    added-as may each (λ _. refl) (added-then (c .before .before .add-scheme .ensures) (c .add-authority .ensures)))
+
+pub add-opening-spec : {M : Type 1} → statement M
+add-opening-spec =
+    tie.close
+    (tie.spec
+    enum-known-opening
+    add-discard-requires
+    enum-told
+    add-head-requires
+    enum-known-opening-2
+    add-scheme-requires
+    add-authority-requires
+    returns
+    returns-2
+    returns-3)

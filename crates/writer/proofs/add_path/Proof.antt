@@ -1,0 +1,51 @@
+-- `writer::add_path` meets its contract.
+use native.Mathlib.Omega.{arith}
+use mathlib.Core.Path.{refl}
+use Rattle.rules.specs.Encode.{orNull}
+use Rattle.writer.proofs.Laws.{added-over, added-as, added-then}
+use Rattle.writer.proofs.Items.{none-lie, few-most, few, texts-said}
+use borrow.Author.Needs.{needs}
+use Rattle.writer.proofs.add_path.Statement.{statement}
+use Rattle.writer.proofs.add_path.Tie as tie
+
+enum-told : tie.Need-enum-told
+enum-told c = search needs
+
+add-null-requires : tie.Need-add-null-requires
+add-null-requires c κs = search needs
+
+enum-known-path : tie.Need-enum-known-path
+enum-known-path c = search needs
+
+returns : tie.Need-returns
+unfolding orNull
+returns c = rw (c .before .before .path .given .1) (added-over _ (λ g h. omega (arith, c .if1 .taken, few-most _ _ _ _ g)))
+
+add-head-requires : tie.Need-add-head-requires
+add-head-requires c κs = search needs
+
+add-segments-requires : tie.Need-add-segments-requires
+add-segments-requires c κs = search needs
+
+returns-2 : tie.Need-returns-2
+unfolding orNull
+returns-2 c = rw (c .before .before .enum-told .given .1) (added-as (λ _. (refl, none-lie _)) (λ _. tt) (λ _. refl) (c .add-null .ensures))
+
+returns-3 : tie.Need-returns-3
+unfolding orNull
+returns-3 c =
+    rw (c .before .before .before .before .before .before .path .given .1)
+    (added-as (λ g. few _ _ _ _ (omega (arith, c .before .before .before .before .if1 .left)) (g .1)) (λ g. (tt, g .1)) (λ _. texts-said _ _ _) (added-then (c .before .before .add-head .ensures) (c .add-segments .ensures)))
+
+pub add-path-spec : {M : Type 1} → statement M
+add-path-spec =
+    tie.close
+    (tie.spec
+    enum-told
+    add-null-requires
+    enum-known-path
+    returns
+    add-head-requires
+    add-segments-requires
+    returns-2
+    returns-3)
