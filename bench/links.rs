@@ -19,6 +19,7 @@ fn text(out: &mut Vec<u8>, t: &str) {
 }
 
 const NULL: u8 = 0xf6;
+const TRUE: u8 = 0xf5;
 const WORDS: [&str; 12] = [".well-known", "core", "position", "gnss", "1", "bow", "stern", "raw", "fix-2d", "λιμάνι", "距離", "Schleppzug-Nr.7"];
 const NAMES: [&str; 8] = ["tug", "harbour", "example", "org", "node-17", "r2d2", "antwerp", "local"];
 
@@ -87,9 +88,10 @@ fn joined(opening: Vec<Vec<u8>>, rest: [Option<Vec<u8>>; 3]) -> Vec<u8> {
     out
 }
 
-fn link(random: &mut Random) -> Vec<u8> {
+// The opening of a link: by its kind a scheme as a number (0 to 5), as a text (6) or none (7) with an authority, or a discard.
+fn opening(random: &mut Random, kind: usize) -> Vec<Vec<u8>> {
     let mut item = Vec::new();
-    let opening = match random.below(10) {
+    match kind {
         0..=5 => {
             head(&mut item, 1, [0, 1, 6, 7][random.below(4)]);
             vec![item, authority(random)]
@@ -103,15 +105,54 @@ fn link(random: &mut Random) -> Vec<u8> {
             head(&mut item, 0, 1 + random.below(4) as u64);
             vec![item]
         }
-    };
-    let path = (random.below(10) < 9).then(|| words(random, 6));
+    }
+}
+
+// Path, which so many of ten links have, query and fragment.
+fn rest(random: &mut Random, paths: usize) -> [Option<Vec<u8>>; 3] {
+    let path = (random.below(10) < paths).then(|| words(random, 6));
     let query = (random.below(10) < 3).then(|| parameters(random));
     let fragment = (random.below(20) < 1).then(|| {
         let mut out = Vec::new();
         text(&mut out, WORDS[random.below(WORDS.len())]);
         out
     });
-    joined(opening, [path, query, fragment])
+    [path, query, fragment]
+}
+
+fn link(random: &mut Random, kind: usize) -> Vec<u8> {
+    let opening = opening(random, kind);
+    joined(opening, rest(random, 9))
+}
+
+fn absolute(random: &mut Random) -> Vec<u8> {
+    let kind = random.below(7);
+    link(random, kind)
+}
+
+// A reference that discards all segments, some or none.
+fn relative(random: &mut Random) -> Vec<u8> {
+    let discard = match random.below(8) {
+        0 => TRUE,
+        1..=3 => 0,
+        _ => 1 + random.below(4) as u8,
+    };
+    let rest = rest(random, 7);
+    // The array of only 0 is written as the empty array.
+    let opening = match discard {
+        0 if rest.iter().all(Option::is_none) => vec![],
+        _ => vec![vec![discard]],
+    };
+    joined(opening, rest)
+}
+
+// A reference as it stands in a document: relative, with an authority, or absolute.
+fn reference(random: &mut Random) -> Vec<u8> {
+    match random.below(10) {
+        0 => absolute(random),
+        1 => link(random, 7),
+        _ => relative(random),
+    }
 }
 
 // One byte changed, or bytes cut off, or one added.
@@ -129,11 +170,28 @@ pub fn mixed(n: usize) -> Vec<Vec<u8>> {
     let mut random = Random::new();
     (0..n)
         .map(|_| {
-            let mut bytes = link(&mut random);
+            let kind = random.below(10);
+            let mut bytes = link(&mut random, kind);
             if random.below(10) == 0 {
                 damage(&mut random, &mut bytes);
             }
             bytes
+        })
+        .collect()
+}
+
+// So many pairs of an absolute link and a reference to resolve against it, one of ten damaged in one of the two.
+pub fn pairs(n: usize) -> Vec<(Vec<u8>, Vec<u8>)> {
+    let mut random = Random::new();
+    (0..n)
+        .map(|_| {
+            let mut pair = (absolute(&mut random), reference(&mut random));
+            match random.below(20) {
+                0 => damage(&mut random, &mut pair.0),
+                1 => damage(&mut random, &mut pair.1),
+                _ => {}
+            }
+            pair
         })
         .collect()
 }

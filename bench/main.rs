@@ -14,6 +14,7 @@ mod escape;
 mod items;
 mod links;
 mod read;
+mod resolve;
 mod utf8;
 mod write;
 
@@ -102,13 +103,14 @@ pub fn compare<I, O>(name: &str, sizes: &[usize], inputs: impl Fn(usize) -> Vec<
 fn main() {
     black_box(placement as *const ());
     let names: Vec<String> = std::env::args().skip(1).collect();
-    let parts: [(&str, fn()); 6] = [
+    let parts: [(&str, fn()); 7] = [
         ("utf8", utf8::measure),
         ("items", items::measure),
         ("escape", escape::measure),
         ("address", address::measure),
         ("read", read::measure),
         ("write", write::measure),
+        ("resolve", resolve::measure),
     ];
     for (name, measure) in parts {
         if names.is_empty() || names.iter().any(|n| n == name) {

@@ -3,10 +3,12 @@
 mod components;
 mod damage;
 mod item;
+mod pairs;
 mod random;
 mod reference;
+mod words;
 
-use crate::lines::{hex, MAX_LINE};
+use crate::lines::{hex, MAX_LINE, MAX_ROOM};
 use random::Random;
 
 /// Request lines without their line feeds; the same for the same seed.
@@ -23,104 +25,151 @@ impl Generator {
     }
 
     fn line(&mut self) -> Vec<u8> {
-        match self.random.below(1000) {
-            0..20 => self.no_request().into_bytes(),
-            20..50 => components::damaged_request(&mut self.random).into_bytes(),
-            50..350 => components::request(&mut self.random).into_bytes(),
-            350..550 => self.segment_request().into_bytes(),
-            _ => format!("read {}", hex(&self.input().bytes)).into_bytes(),
-        }
-    }
-
-    fn segment_request(&mut self) -> String {
-        let input = self.input();
-        let n = match self.random.below(10) {
-            0..5 => self.random.below(input.segments as u64 + 1),
-            5 => (input.segments as u64).saturating_sub(1),
-            6 => input.segments as u64 + 1,
-            7 => self.random.below(40),
-            8 => self.random.number(),
-            _ => u64::MAX - self.random.below(2),
-        };
-        format!("segment {} {n}", hex(&input.bytes))
-    }
-
-    fn input(&mut self) -> Input {
         let random = &mut self.random;
-        match random.below(1000) {
-            0..330 => Input::of(reference::reference(random, 0)),
-            330..630 => {
-                let slips = random.pick(&[1, 1, 2]);
-                Input::of(reference::reference(random, slips))
+        let line = match random.below(1000) {
+            0..20 => no_request(random),
+            20..50 => {
+                let request = random.pick(&DAMAGED)(random);
+                words::damaged(random, &request)
             }
-            630..670 => Input::of(reference::around_longest(random)),
-            670..700 => {
-                let mut input = Input::of(reference::reference(random, 0));
-                damage::append(random, &mut input.bytes);
-                input
-            }
-            700..970 => {
-                let slips = random.pick(&[0, 0, 0, 1]);
-                let mut made = reference::reference(random, slips);
-                damage::damage(random, &mut made.encoded);
-                Input::of(made)
-            }
-            970..973 => Input::of_bytes(long_input(random)),
-            _ => {
-                let length = random.index(40);
-                Input::of_bytes(random.bytes(length))
-            }
+            50..280 => components::request(random),
+            280..500 => pairs::resolve_request(random),
+            500..600 => pairs::authority_request(random),
+            600..720 => segment_request(random),
+            _ => format!("read {}", hex(&input(random).bytes)),
+        };
+        line.into_bytes()
+    }
+}
+
+/// The requests whose words are damaged.
+const DAMAGED: [fn(&mut Random) -> String; 4] = [
+    components::request,
+    components::request,
+    pairs::resolve_request,
+    pairs::authority_request,
+];
+
+fn segment_request(random: &mut Random) -> String {
+    let input = input(random);
+    let n = match random.below(10) {
+        0..5 => random.below(input.segments as u64 + 1),
+        5 => (input.segments as u64).saturating_sub(1),
+        6 => input.segments as u64 + 1,
+        7 => random.below(40),
+        8 => random.number(),
+        _ => u64::MAX - random.below(2),
+    };
+    format!("segment {} {n}", hex(&input.bytes))
+}
+
+/// Bytes to read: a reference, one with faults, or no reference at all.
+fn input(random: &mut Random) -> Input {
+    match random.below(1000) {
+        0..330 => Input::of(reference::reference(random, 0)),
+        330..630 => {
+            let slips = random.pick(&[1, 1, 2]);
+            Input::of(reference::reference(random, slips))
+        }
+        630..670 => Input::of(reference::around_longest(random)),
+        670..700 => {
+            let mut input = Input::of(reference::reference(random, 0));
+            damage::append(random, &mut input.bytes);
+            input
+        }
+        700..970 => {
+            let slips = random.pick(&[0, 0, 0, 1]);
+            let mut made = reference::reference(random, slips);
+            damage::damage(random, &mut made.encoded);
+            Input::of(made)
+        }
+        970..973 => Input::of_bytes(long_input(random)),
+        _ => {
+            let length = random.index(40);
+            Input::of_bytes(random.bytes(length))
         }
     }
+}
 
-    /// A line that begins like a request or not at all, and is none.
-    fn no_request(&mut self) -> String {
-        let bytes = self.input().bytes;
-        let word = hex(&bytes);
-        let n = self.random.number();
-        match self.random.below(24) {
-            0 => String::new(),
-            1 => " ".to_string(),
-            2 => "read".to_string(),
-            3 => "read ".to_string(),
-            4 => "segment".to_string(),
-            5 => format!("segment {word}"),
-            6 => format!("segment {word} "),
-            7 => format!("reads {word}"),
-            8 => format!("rea {word}"),
-            9 => format!("READ {word}"),
-            10 => format!(" read {word}"),
-            11 => format!("read  {word}"),
-            12 => format!("read {word} "),
-            13 => format!("read {word} {n}"),
-            14 => format!("read {word}0-"),
-            15 => format!("read 0{}", hex(&[&bytes[..], &[0x80]].concat())),
-            16 => format!(
-                "read {}",
-                hex(&[&bytes[..], &[0xFA]].concat()).to_uppercase()
-            ),
-            17 => format!(
-                "read {word}{}",
-                self.random
-                    .pick(&["g0", "0:", "/0", "0`", "@0", "\t", "\r"])
-            ),
-            18 => format!("segment {word} {n} {n}"),
-            19 => format!("segment {word} -{n}"),
-            20 => format!("segment {word} {}{n:020}", 1 + self.random.below(99)),
-            21 => format!(
-                "segment {word} 184467440737095516{}",
-                16 + self.random.below(84)
-            ),
-            22 => format!(
-                "segment {word} {}",
-                self.random
-                    .pick(&["-", "+1", "1a", "0x1", "a", "1-", "1,0"])
-            ),
-            _ if self.random.chance(80) => hex(&bytes),
-            _ => {
-                let length = (MAX_LINE + 1 - "read ".len()) / 2 + self.random.index(3);
-                format!("read {}", hex(&self.random.bytes(length)))
-            }
+/// A length of the room, for an encoding of this length.
+fn room(random: &mut Random, length: usize) -> usize {
+    let room = match random.below(12) {
+        0..4 => length,
+        4 | 5 => length.saturating_sub(1),
+        6 => length + 1,
+        7 => random.index(length + 1),
+        8 => random.pick(&[0, 1]),
+        9 => length + random.index(100),
+        _ => random.pick(&[4096, MAX_ROOM - 1, MAX_ROOM]),
+    };
+    room.min(MAX_ROOM)
+}
+
+/// A line that begins like a request or not at all, and is none.
+fn no_request(random: &mut Random) -> String {
+    let bytes = input(random).bytes;
+    let word = hex(&bytes);
+    let no_word = no_bytes(random, &bytes);
+    let n = random.number();
+    match random.below(40) {
+        0 => String::new(),
+        1 => " ".to_string(),
+        2 => "read".to_string(),
+        3 => "read ".to_string(),
+        4 => "segment".to_string(),
+        5 => format!("segment {word}"),
+        6 => format!("segment {word} "),
+        7 => format!("reads {word}"),
+        8 => format!("rea {word}"),
+        9 => format!("READ {word}"),
+        10 => format!(" read {word}"),
+        11 => format!("read  {word}"),
+        12 => format!("read {word} "),
+        13 => format!("read {word} {n}"),
+        14..18 => format!("read {no_word}"),
+        18 => format!("segment {word} {n} {n}"),
+        19 => format!("segment {word} -{n}"),
+        20 => format!("segment {word} {}{n:020}", 1 + random.below(99)),
+        21 => format!("segment {word} 184467440737095516{}", 16 + random.below(84)),
+        22 => {
+            let no_number = random.pick(&["-", "+1", "1a", "0x1", "a", "1-", "1,0"]);
+            format!("segment {word} {no_number}")
+        }
+        23 => random
+            .pick(&["resolve", "resolve ", "authority", "authority "])
+            .to_string(),
+        24 => format!("resolve {word} 80"),
+        25 => format!("resolve 9 {word}"),
+        26 => format!("resolve 9 {word} "),
+        27 => format!("resolve 9 80 {word} "),
+        28 => format!("resolve 9 {word} 80 80"),
+        29 => format!("resolve 9 {no_word} 80"),
+        30 => format!("resolve 9 {word} {no_word}"),
+        31 => format!("resolve {} {word} 80", 1 + MAX_ROOM as u64 + n / 2),
+        32 => format!("authority {word}"),
+        33 => format!("authority {word} "),
+        34 => format!("authority  {word} 80"),
+        35 => format!("authority {word} 80 80"),
+        36 => format!("authority {no_word} 80"),
+        37 => format!("authority {word} {no_word}"),
+        _ if random.chance(80) => word,
+        _ => {
+            let length = (MAX_LINE + 1 - "read ".len()) / 2 + random.index(3);
+            format!("read {}", hex(&random.bytes(length)))
+        }
+    }
+}
+
+/// A word that is not how bytes are written.
+fn no_bytes(random: &mut Random, bytes: &[u8]) -> String {
+    let word = hex(bytes);
+    match random.below(4) {
+        0 => format!("{word}0-"),
+        1 => format!("0{}", hex(&[bytes, &[0x80]].concat())),
+        2 => hex(&[bytes, &[0xFA]].concat()).to_uppercase(),
+        _ => {
+            let end = random.pick(&["g0", "0:", "/0", "0`", "@0", "\t", "\r"]);
+            format!("{word}{end}")
         }
     }
 }

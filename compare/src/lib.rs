@@ -1,7 +1,9 @@
 //! The rules in ordinary Rust, to be compared with the proved program.
 
+mod encoder;
 pub mod generate;
 pub mod lines;
 pub mod reader;
+pub mod resolver;
 pub mod views;
 pub mod writer;

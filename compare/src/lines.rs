@@ -3,6 +3,7 @@
 mod components;
 
 use crate::reader::read;
+use crate::resolver::resolve;
 use crate::views;
 use crate::writer::{write, Components};
 pub use components::{write_from_answer, write_from_itself};
@@ -20,10 +21,12 @@ type Answer = Result<String, &'static str>;
 type Call = fn(&mut Words) -> Answer;
 
 /// The calls known here. A new call is a function and a row.
-const CALLS: [(&str, Call); 3] = [
+const CALLS: [(&str, Call); 5] = [
     ("read", read_call),
-    ("segment", segment_call),
     ("write", write_call),
+    ("resolve", resolve_call),
+    ("segment", segment_call),
+    ("authority", authority_call),
 ];
 
 /// The known call that the line begins with.
@@ -63,13 +66,6 @@ fn read_call(words: &mut Words) -> Answer {
     })
 }
 
-fn segment_call(words: &mut Words) -> Answer {
-    let input = words.bytes()?;
-    let n = words.number()?;
-    let (number, view) = views::segment(&input, n);
-    Ok(format!("{number} {}", hex(view)))
-}
-
 fn write_call(words: &mut Words) -> Answer {
     let room = words.room()?;
     let lent = words.bytes()?;
@@ -84,6 +80,30 @@ fn write_call(words: &mut Words) -> Answer {
         fragment: components::fragment(words)?,
     };
     Ok(written(room, |room| write(&components, &lent, room)))
+}
+
+fn resolve_call(words: &mut Words) -> Answer {
+    let room = words.room()?;
+    let base = words.bytes()?;
+    let reference = words.bytes()?;
+    Ok(written(room, |room| resolve(&base, &reference, room)))
+}
+
+fn segment_call(words: &mut Words) -> Answer {
+    let input = words.bytes()?;
+    let n = words.number()?;
+    Ok(viewed(views::segment(&input, n)))
+}
+
+fn authority_call(words: &mut Words) -> Answer {
+    let reference = words.bytes()?;
+    let base = words.bytes()?;
+    Ok(viewed(views::authority(&reference, &base)))
+}
+
+/// The answer of a call that gives a view.
+fn viewed((number, view): (u8, &[u8])) -> String {
+    format!("{number} {}", hex(view))
 }
 
 /// The answer of a call that writes to a room of this length: its number, what it wrote, and whether it kept every other byte.

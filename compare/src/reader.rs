@@ -67,6 +67,16 @@ pub struct Reference<'a> {
     pub fragment: Option<&'a str>,
 }
 
+impl<'a> Reference<'a> {
+    /// The scheme and the authority, where the reference is absolute.
+    pub fn absolute(&self) -> Option<(Scheme<'a>, &Authority<'a>)> {
+        match &self.opening {
+            Opening::Discard(_) | Opening::Authority(Scheme::None, _) => None,
+            Opening::Authority(scheme, authority) => Some((*scheme, authority)),
+        }
+    }
+}
+
 #[derive(Clone, Debug, PartialEq, Eq)]
 pub enum Opening<'a> {
     Discard(Discard),
@@ -91,6 +101,8 @@ pub enum Scheme<'a> {
 pub struct Authority<'a> {
     pub host: Host<'a>,
     pub port: Option<u16>,
+    /// The whole item.
+    pub encoded: &'a [u8],
 }
 
 #[derive(Clone, Debug, PartialEq, Eq)]
@@ -294,6 +306,7 @@ impl<'a> Reader<'a> {
     }
 
     fn authority(&mut self) -> Result<Authority<'a>, Refusal> {
+        let begin = self.rest;
         let array = self.item_of(Kind::Array)?;
         let count = self.within(array, AUTHORITY_ITEMS)?;
         let mut host = self.first_of_host()?;
@@ -308,9 +321,14 @@ impl<'a> Reader<'a> {
                 _ => return Err(item.refuse(Reason::Form)),
             }
         }
+        let encoded = &begin[..begin.len() - self.rest.len()];
         match &host {
             Host::Labels(labels) if !is_name(labels) => Err(array.refuse(Reason::Rule)),
-            _ => Ok(Authority { host, port }),
+            _ => Ok(Authority {
+                host,
+                port,
+                encoded,
+            }),
         }
     }
 

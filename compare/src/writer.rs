@@ -5,6 +5,9 @@
 
 #![forbid(unsafe_code)]
 
+use crate::encoder::{
+    items_after, Buffer, Encoder, Put, BYTES, NEGATIVE, NULL, NUMBER, TEXT, TRUE,
+};
 use crate::reader::{read, Reason, Refusal, MAX_INPUT, MAX_LABELS, MAX_PARAMETERS, MAX_SEGMENTS};
 
 /// The number of an encoding that is longer than the room.
@@ -56,61 +59,45 @@ pub enum Host<'c> {
     Labels(&'c [Span]),
 }
 
-impl Components<'_> {
-    /// How many items follow the opening: up to the last one that is set.
-    fn items_after(&self) -> usize {
-        match (self.path, self.query, self.fragment) {
-            (_, _, Some(_)) => 3,
-            (_, Some(_), None) => 2,
-            (Some(_), None, None) => 1,
-            (None, None, None) => 0,
-        }
-    }
-}
-
 /// Writes the encoding to the start of `room` and gives its length; or gives the refusal number.
 pub fn write(components: &Components, lent: &[u8], room: &mut [u8]) -> Result<usize, u8> {
-    let mut encoder = Encoder {
+    let mut bytes = [0; MAX_INPUT];
+    let mut encoding = Encoding {
         lent,
-        bytes: [0; MAX_INPUT],
-        length: 0,
+        to: Buffer::new(&mut bytes),
     };
-    encoder.reference(components).ok_or(Reason::Limit as u8)?;
-    let encoding = &encoder.bytes[..encoder.length];
-    read(encoding).map_err(Refusal::number)?;
-    let written = room.get_mut(..encoding.len()).ok_or(ROOM)?;
-    written.copy_from_slice(encoding);
-    Ok(encoding.len())
+    encoding.reference(components).ok_or(Reason::Limit as u8)?;
+    let encoded = encoding.to.written();
+    read(encoded).map_err(Refusal::number)?;
+    let written = room.get_mut(..encoded.len()).ok_or(ROOM)?;
+    written.copy_from_slice(encoded);
+    Ok(encoded.len())
 }
 
-/// `None` for a count over its size, a span outside the lent bytes, or an encoding over the largest size: all have the same number.
-type Put = Option<()>;
-
-const NUMBER: u8 = 0;
-const NEGATIVE: u8 = 1;
-const BYTES: u8 = 2;
-const TEXT: u8 = 3;
-const ARRAY: u8 = 4;
-const TRUE: u8 = 0xF5;
-const NULL: u8 = 0xF6;
-
-struct Encoder<'l> {
+/// An encoding that is being made. `None` is given for a count over its size, a span outside the lent bytes, and an encoding over the
+/// largest size: all have the same number.
+struct Encoding<'l, 'b> {
     lent: &'l [u8],
-    bytes: [u8; MAX_INPUT],
-    length: usize,
+    to: Buffer<'b>,
 }
 
-impl Encoder<'_> {
+impl Encoding<'_, '_> {
     fn reference(&mut self, components: &Components) -> Put {
-        let after = components.items_after();
-        self.opening(components.opening, after)?;
+        let Components {
+            opening,
+            path,
+            query,
+            fragment,
+        } = *components;
+        let after = items_after(path.is_some(), query.is_some(), fragment.is_some());
+        self.opening(opening, after)?;
         if after >= 1 {
-            self.texts(components.path, MAX_SEGMENTS)?;
+            self.texts(path, MAX_SEGMENTS)?;
         }
         if after >= 2 {
-            self.texts(components.query, MAX_PARAMETERS)?;
+            self.texts(query, MAX_PARAMETERS)?;
         }
-        match components.fragment {
+        match fragment {
             Some(fragment) => self.string(TEXT, fragment),
             None => Some(()),
         }
@@ -119,21 +106,21 @@ impl Encoder<'_> {
     /// The head of the outer array, and its items before those `after` the opening.
     fn opening(&mut self, opening: Opening, after: usize) -> Put {
         match opening {
-            Opening::Discard(Discard::Last(0)) if after == 0 => self.array(0),
+            Opening::Discard(Discard::Last(0)) if after == 0 => self.to.array(0),
             Opening::Discard(discard) => {
-                self.array(1 + after)?;
+                self.to.array(1 + after)?;
                 self.discard(discard)
             }
             Opening::Authority(scheme, None) if after == 0 => {
-                self.array(1)?;
+                self.to.array(1)?;
                 self.scheme(scheme)
             }
             Opening::Authority(scheme, authority) => {
-                self.array(2 + after)?;
+                self.to.array(2 + after)?;
                 self.scheme(scheme)?;
                 match authority {
                     Some(authority) => self.authority(authority),
-                    None => self.put(&[NULL]),
+                    None => self.to.put(&[NULL]),
                 }
             }
         }
@@ -141,15 +128,15 @@ impl Encoder<'_> {
 
     fn discard(&mut self, discard: Discard) -> Put {
         match discard {
-            Discard::All => self.put(&[TRUE]),
-            Discard::Last(count) => self.head(NUMBER, count),
+            Discard::All => self.to.put(&[TRUE]),
+            Discard::Last(count) => self.to.head(NUMBER, count),
         }
     }
 
     fn scheme(&mut self, scheme: Scheme) -> Put {
         match scheme {
-            Scheme::None => self.put(&[NULL]),
-            Scheme::Number(number) => self.head(NEGATIVE, number),
+            Scheme::None => self.to.put(&[NULL]),
+            Scheme::Number(number) => self.to.head(NEGATIVE, number),
             Scheme::Text(text) => self.string(TEXT, text),
         }
     }
@@ -158,13 +145,13 @@ impl Encoder<'_> {
         let ports = usize::from(authority.port.is_some());
         match authority.host {
             Host::Address(address) => {
-                self.array(1 + ports)?;
+                self.to.array(1 + ports)?;
                 self.string(BYTES, address)?;
             }
             Host::Labels(labels) => self.array_of(labels, MAX_LABELS, ports)?,
         }
         match authority.port {
-            Some(port) => self.head(NUMBER, port),
+            Some(port) => self.to.head(NUMBER, port),
             None => Some(()),
         }
     }
@@ -173,7 +160,7 @@ impl Encoder<'_> {
     fn texts(&mut self, texts: Option<&[Span]>, most: usize) -> Put {
         match texts {
             Some(texts) => self.array_of(texts, most, 0),
-            None => self.put(&[NULL]),
+            None => self.to.put(&[NULL]),
         }
     }
 
@@ -182,46 +169,13 @@ impl Encoder<'_> {
         if texts.len() > most {
             return None;
         }
-        self.array(texts.len() + further)?;
+        self.to.array(texts.len() + further)?;
         texts.iter().try_for_each(|&text| self.string(TEXT, text))
-    }
-
-    fn array(&mut self, count: usize) -> Put {
-        self.head(ARRAY, count as u64)
     }
 
     fn string(&mut self, major: u8, span: Span) -> Put {
         let end = span.start.checked_add(span.length)?;
         let content = self.lent.get(span.start..end)?;
-        self.head(major, content.len() as u64)?;
-        self.put(content)
-    }
-
-    /// The shortest head.
-    fn head(&mut self, major: u8, argument: u64) -> Put {
-        let major = major << 5;
-        match argument {
-            0..=23 => self.put(&[major | argument as u8]),
-            24..=0xFF => self.put(&[major | 24, argument as u8]),
-            0x100..=0xFFFF => {
-                self.put(&[major | 25])?;
-                self.put(&(argument as u16).to_be_bytes())
-            }
-            0x1_0000..=0xFFFF_FFFF => {
-                self.put(&[major | 26])?;
-                self.put(&(argument as u32).to_be_bytes())
-            }
-            _ => {
-                self.put(&[major | 27])?;
-                self.put(&argument.to_be_bytes())
-            }
-        }
-    }
-
-    fn put(&mut self, bytes: &[u8]) -> Put {
-        let end = self.length + bytes.len();
-        self.bytes.get_mut(self.length..end)?.copy_from_slice(bytes);
-        self.length = end;
-        Some(())
+        self.to.string(major, content)
     }
 }

@@ -3,20 +3,25 @@
 use compare::generate::Generator;
 use compare::lines;
 use compare::reader::{read, Discard, Host, Opening, Reference, Scheme};
+use compare::resolver::resolve;
 use std::collections::BTreeMap;
 
-const COUNT: usize = 20_000;
+const COUNT: usize = 36_000;
 
 fn requests(seed: u64) -> impl Iterator<Item = Vec<u8>> {
     Generator::new(seed).take(COUNT)
 }
 
-/// How often each word begins the answers to the requests of one call.
-fn first_words(call: &str) -> BTreeMap<String, usize> {
-    let mut words = BTreeMap::new();
-    for request in requests(1).filter(|request| lines::call(request) == Some(call)) {
+/// How often each word begins the answers to the requests of each call.
+fn first_words() -> BTreeMap<&'static str, BTreeMap<String, usize>> {
+    let mut words: BTreeMap<_, BTreeMap<_, _>> = BTreeMap::new();
+    for request in requests(1) {
+        let Some(call) = lines::call(&request) else {
+            continue;
+        };
         let answer = lines::answer(&request);
         let word = answer.split(' ').next().unwrap_or_default();
+        let words = words.entry(call).or_default();
         *words.entry(word.to_string()).or_default() += 1;
     }
     words
@@ -35,12 +40,18 @@ fn a_request_is_one_line() {
 
 #[test]
 fn every_number_comes_often() {
+    let words = first_words();
     for (call, numbers) in [
         ("read", &["0", "1", "2", "3", "4", "5", "6", "7"][..]),
         ("segment", &["0", "1", "2", "3", "4", "5", "6", "7", "18"]),
         ("write", &["0", "2", "4", "5", "6", "10"]),
+        (
+            "resolve",
+            &["0", "1", "2", "3", "4", "5", "6", "7", "8", "9", "10"],
+        ),
+        ("authority", &["0", "1", "2", "3", "4", "5", "6", "7", "8"]),
     ] {
-        let words = first_words(call);
+        let words = &words[call];
         let all: usize = words.values().sum();
         for &number in numbers {
             let often = words.get(number).copied().unwrap_or_default();
@@ -55,9 +66,9 @@ fn every_number_comes_often() {
 /// What is written has whole and shortest heads, and nothing after the array.
 #[test]
 fn writing_never_answers_1_3_or_7() {
-    let words = first_words("write");
+    let words = first_words();
     for number in ["1", "3", "7"] {
-        assert!(!words.contains_key(number), "{number}");
+        assert!(!words["write"].contains_key(number), "{number}");
     }
 }
 
@@ -311,5 +322,226 @@ fn every_limit_of_writing_is_passed() {
             .filter(|(request, answer)| holds(request, answer))
             .count();
         assert!(often >= 5, "{name}: {often} times of {}", requests.len());
+    }
+}
+
+/// The words of each resolve request that is one: the room, the base and the reference.
+fn resolve_requests() -> Vec<(usize, Vec<u8>, Vec<u8>)> {
+    requests(1)
+        .filter(|request| !lines::answer(request).starts_with("? "))
+        .filter_map(|request| {
+            let mut words = request.strip_prefix(b"resolve ")?.split(|&b| b == b' ');
+            let room = std::str::from_utf8(words.next()?).ok()?.parse().ok()?;
+            Some((room, unhex(words.next()?)?, unhex(words.next()?)?))
+        })
+        .collect()
+}
+
+/// A base and a reference that are accepted, the length of the room, and what resolving with room enough gives: a length or 9.
+struct Pair<'a> {
+    base: Reference<'a>,
+    reference: Reference<'a>,
+    room: usize,
+    outcome: Result<usize, u8>,
+}
+
+impl<'a> Pair<'a> {
+    /// `None` where the base or the reference is refused, or the base not absolute.
+    fn of((room, base, reference): &'a (usize, Vec<u8>, Vec<u8>)) -> Option<Self> {
+        let pair = Pair {
+            base: read(base).ok()?,
+            reference: read(reference).ok()?,
+            room: *room,
+            outcome: resolve(base, reference, &mut [0; 1024]),
+        };
+        pair.base.absolute().is_some().then_some(pair)
+    }
+
+    fn base_path(&self) -> &[&'a str] {
+        self.base.path.as_deref().unwrap_or_default()
+    }
+
+    fn appended(&self) -> &[&'a str] {
+        self.reference.path.as_deref().unwrap_or_default()
+    }
+
+    /// What is left of the base's path by the discard alone.
+    fn kept(&self) -> &[&'a str] {
+        let path = self.base_path();
+        let kept = path
+            .len()
+            .saturating_sub(self.discard().unwrap_or(usize::MAX));
+        &path[..kept]
+    }
+
+    /// How many segments the reference discards; `None` where it discards all.
+    fn discard(&self) -> Option<usize> {
+        match self.reference.opening {
+            Opening::Discard(Discard::Last(count)) => Some(count.into()),
+            _ => None,
+        }
+    }
+
+    fn keeps_all(&self) -> bool {
+        self.discard() == Some(0)
+    }
+
+    fn segments(&self) -> usize {
+        self.kept().len() + self.appended().len()
+    }
+
+    /// The length of a result with 1 to 23 segments and no query but the reference's.
+    fn length(&self) -> usize {
+        let text = |text: &&str| text.len() + if text.len() < 24 { 1 } else { 2 };
+        let texts = |texts: &[&str]| texts.iter().map(text).sum::<usize>();
+        let scheme = match self.reference.absolute().or(self.base.absolute()) {
+            Some((Scheme::Text(scheme), _)) => text(&scheme),
+            _ => 1,
+        };
+        let authority = match (&self.base.opening, &self.reference.opening) {
+            (_, Opening::Authority(_, authority)) | (Opening::Authority(_, authority), _) => {
+                authority.encoded.len()
+            }
+            _ => 0,
+        };
+        let path = 1 + texts(self.kept()) + texts(self.appended());
+        let after = match (&self.reference.query, self.reference.fragment) {
+            (Some(query), None) => 1 + texts(query),
+            (None, Some(fragment)) => 1 + text(&fragment),
+            (Some(query), Some(fragment)) => 1 + texts(query) + text(&fragment),
+            (None, None) => 0,
+        };
+        1 + scheme + authority + path + after
+    }
+}
+
+type PairProperty = (&'static str, fn(&Pair) -> bool);
+
+#[test]
+fn every_sort_of_pair_is_resolved() {
+    let properties: [PairProperty; 35] = [
+        ("31 segments", |p| p.segments() == 31 && p.outcome.is_ok()),
+        ("32 segments", |p| p.segments() == 32 && p.outcome.is_ok()),
+        ("32 segments, some of each", |p| {
+            (1..32).contains(&p.kept().len()) && p.segments() == 32 && p.outcome.is_ok()
+        }),
+        ("33 segments", |p| p.segments() == 33),
+        ("64 segments", |p| p.segments() == 64),
+        ("1,023 bytes", |p| p.outcome == Ok(1023)),
+        ("1,024 bytes", |p| p.outcome == Ok(1024)),
+        ("1,024 bytes of both paths", |p| {
+            p.outcome == Ok(1024) && !p.kept().is_empty() && !p.appended().is_empty()
+        }),
+        ("1,025 bytes", |p| {
+            p.reference.path.is_some()
+                && (1..24).contains(&p.segments())
+                && p.length() == 1025
+                && p.outcome == Err(9)
+        }),
+        ("discard 0", |p| p.discard() == Some(0)),
+        ("discard 1", |p| p.discard() == Some(1)),
+        ("discard one less than there are", |p| {
+            p.discard().map(|count| count + 1) == Some(p.base_path().len())
+        }),
+        ("discard as many as there are", |p| {
+            p.discard() == Some(p.base_path().len())
+        }),
+        ("discard one more than there are", |p| {
+            p.discard() == Some(p.base_path().len() + 1)
+        }),
+        ("discard 127", |p| p.discard() == Some(127)),
+        ("discard true", |p| {
+            p.reference.opening == Opening::Discard(Discard::All)
+        }),
+        ("base of one empty segment", |p| {
+            p.base_path() == [""] && p.keeps_all() && p.reference.path.is_none()
+        }),
+        ("base of one empty segment, another appended", |p| {
+            p.base_path() == [""] && p.keeps_all() && p.appended() == [""]
+        }),
+        ("base of one empty segment, others appended", |p| {
+            p.base_path() == [""] && p.keeps_all() && p.appended().len() > 1
+        }),
+        ("one empty segment kept", |p| {
+            p.base_path().len() > 1 && p.kept() == [""] && p.appended().is_empty()
+        }),
+        ("one empty segment appended", |p| {
+            p.base_path().len() > 1 && p.kept().is_empty() && p.appended() == [""]
+        }),
+        ("two empty segments, one of each", |p| {
+            p.base_path().len() > 1 && p.kept() == [""] && p.appended() == [""]
+        }),
+        ("33 segments, the last one empty", |p| {
+            p.segments() == 33 && p.appended().last() == Some(&"")
+        }),
+        (
+            "base with query and fragment, nothing of the reference",
+            |p| {
+                p.base.query.is_some()
+                    && p.base.fragment.is_some()
+                    && p.keeps_all()
+                    && p.reference.path.is_none()
+                    && p.reference.query.is_none()
+                    && p.reference.fragment.is_none()
+            },
+        ),
+        ("base with query, empty path", |p| {
+            p.base.query.is_some()
+                && p.keeps_all()
+                && p.reference.path.as_deref() == Some(&[])
+                && p.reference.query.is_none()
+        }),
+        ("base with query, only a fragment", |p| {
+            p.base.query.is_some()
+                && p.keeps_all()
+                && p.reference.path.is_none()
+                && p.reference.query.is_none()
+                && p.reference.fragment.is_some()
+        }),
+        ("base with query, only a query", |p| {
+            p.base.query.is_some()
+                && p.keeps_all()
+                && p.reference.path.is_none()
+                && p.reference.query.is_some()
+                && p.reference.fragment.is_none()
+        }),
+        ("query and fragment", |p| {
+            p.reference.path.is_none()
+                && p.reference.query.is_some()
+                && p.reference.fragment.is_some()
+        }),
+        ("authority without scheme", |p| {
+            matches!(p.reference.opening, Opening::Authority(Scheme::None, _))
+        }),
+        ("absolute reference", |p| p.reference.absolute().is_some()),
+        ("room exact", |p| p.outcome == Ok(p.room)),
+        ("room one short", |p| p.outcome == Ok(p.room + 1)),
+        ("empty room", |p| p.room == 0),
+        ("largest room", |p| p.room == 16384 && p.outcome.is_ok()),
+        ("over a size, and the room too short", |p| {
+            p.outcome == Err(9) && p.room < 10
+        }),
+    ];
+    let requests = resolve_requests();
+    let pairs: Vec<_> = requests.iter().filter_map(Pair::of).collect();
+    for (name, holds) in properties {
+        let often = pairs.iter().filter(|pair| holds(pair)).count();
+        assert!(often >= 5, "{name}: {often} times of {}", pairs.len());
+    }
+}
+
+#[test]
+fn some_bases_are_refused_or_not_absolute() {
+    let requests = resolve_requests();
+    let bases = || requests.iter().map(|(_, base, _)| read(base));
+    let refused = bases().filter(Result::is_err).count();
+    let discards = bases()
+        .flatten()
+        .filter(|base| matches!(base.opening, Opening::Discard(_)));
+    let no_schemes = bases()
+        .flatten()
+        .filter(|base| matches!(base.opening, Opening::Authority(Scheme::None, _)));
+    for often in [refused, discards.count(), no_schemes.count()] {
+        assert!(often >= 20, "{often}");
     }
 }

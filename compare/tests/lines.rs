@@ -51,6 +51,11 @@ fn a_view_is_a_part_of_the_input() {
     assert_eq!(segment(&input, 1).1.as_ptr(), input[5..].as_ptr());
     assert_eq!(segment(&input, 2).1.as_ptr(), input.as_ptr());
     assert_eq!(segment(&input[..5], 0).1.as_ptr(), input.as_ptr());
+    // A lone empty segment is the empty part after its head.
+    let lone = [0x82, 0xF5, 0x81, 0x60];
+    let view = segment(&lone, 0);
+    assert_eq!(view, (0, &[][..]));
+    assert_eq!(view.1.as_ptr(), lone[4..].as_ptr());
 }
 
 #[test]
@@ -70,6 +75,42 @@ fn write_answers_what_it_wrote() {
             "write 60 6162 scheme number 9 authority label 0 1 label 1 1 query parameter 2 0",
             "0 10 84298261616162f68160 kept",
         ),
+    ];
+    for (request, expected) in cases {
+        assert_eq!(answer(request.as_bytes()), expected, "{request}");
+    }
+}
+
+#[test]
+fn resolve_answers_what_it_wrote() {
+    let cases = [
+        ("resolve 5 8220816168 80", "0 5 8220816168 kept"),
+        ("resolve 4 8220816168 80", "10 0 - kept"),
+        ("resolve 0 8220816168 80", "10 0 - kept"),
+        (
+            "resolve 00016384 8220816168 8200816161",
+            "0 8 8320816168816161 kept",
+        ),
+        ("resolve 9 8220816168 -", "1 0 - kept"),
+        ("resolve 9 8220816168 8000", "7 0 - kept"),
+        ("resolve 9 - -", "8 0 - kept"),
+        ("resolve 9 80 8220816168", "8 0 - kept"),
+        ("resolve 0 80 80", "8 0 - kept"),
+    ];
+    for (request, expected) in cases {
+        assert_eq!(answer(request.as_bytes()), expected, "{request}");
+    }
+}
+
+#[test]
+fn authority_answers_a_view() {
+    let cases = [
+        ("authority 80 8220816168", "0 816168"),
+        ("authority 82f6816169 8220816168", "0 816169"),
+        ("authority - 8220816168", "1 -"),
+        ("authority 8000 8220816168", "7 -"),
+        ("authority 82f6816169 -", "8 -"),
+        ("authority 8220816168 80", "8 -"),
     ];
     for (request, expected) in cases {
         assert_eq!(answer(request.as_bytes()), expected, "{request}");
@@ -174,6 +215,30 @@ fn no_requests() {
         "write 9 - scheme none authority port 0 port 0",
         "write 9 - scheme none authority port 0 label 0 0",
         "write 9 - authority label 0 0",
+        "resolve",
+        "resolve ",
+        "resolve 9",
+        "resolve 9 8220816168",
+        "resolve 9 8220816168 ",
+        "resolve 9 8220816168 80 ",
+        "resolve 9 8220816168 80 80",
+        "resolve  8220816168 80",
+        "resolve - 8220816168 80",
+        "resolve 16385 8220816168 80",
+        "resolve 18446744073709551616 8220816168 80",
+        "resolve 9 822081616 80",
+        "resolve 9 8220816168 8",
+        "resolve 9 8220816168 8F",
+        "authority",
+        "authority ",
+        "authority 80",
+        "authority 80 ",
+        "authority 80 8220816168 ",
+        "authority 80 8220816168 80",
+        "authority  8220816168",
+        "authority 8 8220816168",
+        "authority 80 822081616",
+        "authority 8F 8220816168",
         "\u{e9}",
     ];
     for line in lines {
@@ -194,6 +259,8 @@ fn known_calls() {
     assert_eq!(call(b"read 80"), Some("read"));
     assert_eq!(call(b"segment"), Some("segment"));
     assert_eq!(call(b"write 0 -"), Some("write"));
+    assert_eq!(call(b"resolve 0 - -"), Some("resolve"));
+    assert_eq!(call(b"authority - -"), Some("authority"));
     assert_eq!(call(b"reads 80"), None);
     assert_eq!(call(b""), None);
 }

@@ -1,16 +1,10 @@
 //! The reader: the table of the rules, the readings of docs/DECISIONS.md, and every size at it, one below and one over.
 
+mod encode;
+
 use compare::lines;
 use compare::reader::read;
-
-/// The bytes of hexadecimal words.
-fn bytes(hex: &str) -> Vec<u8> {
-    let digits: Vec<u32> = hex.chars().filter_map(|c| c.to_digit(16)).collect();
-    digits
-        .chunks(2)
-        .map(|pair| ((pair[0] << 4) | pair[1]) as u8)
-        .collect()
-}
+use encode::{array, bytes, text, texts};
 
 /// A number of an accepted input is 0 and has no place.
 fn outcome(input: &[u8]) -> (u8, Option<usize>) {
@@ -35,36 +29,9 @@ fn accepted(hex: &str, components: &str) {
     );
 }
 
-/// Encodings, written apart from the generator's.
-mod encode {
-    pub fn head(major: u8, argument: usize) -> Vec<u8> {
-        match argument {
-            0..=23 => vec![(major << 5) | argument as u8],
-            24..=255 => vec![(major << 5) | 24, argument as u8],
-            256..=65535 => vec![(major << 5) | 25, (argument >> 8) as u8, argument as u8],
-            _ => panic!("no test needs {argument}"),
-        }
-    }
-
-    pub fn text(length: usize) -> Vec<u8> {
-        [head(3, length), vec![b'a'; length]].concat()
-    }
-
-    pub fn string(length: usize) -> Vec<u8> {
-        [head(2, length), vec![7; length]].concat()
-    }
-
-    pub fn array(items: &[Vec<u8>]) -> Vec<u8> {
-        [head(4, items.len()), items.concat()].concat()
-    }
-
-    pub fn texts(lengths: &[usize]) -> Vec<u8> {
-        let items: Vec<_> = lengths.iter().map(|&length| text(length)).collect();
-        array(&items)
-    }
+fn string(length: usize) -> Vec<u8> {
+    [encode::head(2, length), vec![7; length]].concat()
 }
-
-use encode::{array, string, text, texts};
 
 const NULL: &[u8] = &[0xF6];
 const TRUE: &[u8] = &[0xF5];

@@ -3,7 +3,8 @@
 use super::item::Item;
 use super::random::Random;
 use super::reference::{self, Made};
-use crate::lines::{hex, write_from_itself, MAX_ROOM};
+use super::room;
+use crate::lines::{hex, write_from_itself};
 
 /// A request to write a reference: from its own bytes where it is accepted, or from other lent bytes, with a fault or without.
 pub fn request(random: &mut Random) -> String {
@@ -18,96 +19,6 @@ pub fn request(random: &mut Random) -> String {
     let lent = Lent::of(random, &parts);
     let words: Vec<String> = parts.iter().map(|part| lent.words(random, part)).collect();
     format!("write {room} {}{}", hex(&lent.bytes), words.concat())
-}
-
-/// A request to write with some of its words changed, which may make it none.
-pub fn damaged_request(random: &mut Random) -> String {
-    let request = request(random);
-    let mut words: Vec<&str> = request.split(' ').collect();
-    for _ in 0..random.pick(&[1, 1, 2]) {
-        damage(random, &mut words);
-    }
-    words.join(" ")
-}
-
-/// Words of such requests, and others in their place.
-const WORDS: [&str; 30] = [
-    "",
-    "-",
-    "0",
-    "1",
-    "4",
-    "16384",
-    "16385",
-    "18446744073709551615",
-    "18446744073709551616",
-    "000000000000000000000",
-    "+1",
-    "1a",
-    "0A",
-    "x",
-    "all",
-    "none",
-    "discard",
-    "scheme",
-    "number",
-    "text",
-    "authority",
-    "address",
-    "label",
-    "port",
-    "path",
-    "segment",
-    "query",
-    "parameter",
-    "fragment",
-    "Path",
-];
-
-/// Lengths of a room that are too large or none.
-const ROOMS: [&str; 8] = [
-    "16385",
-    "16386",
-    "32768",
-    "65536",
-    "18446744073709551615",
-    "18446744073709551616",
-    "-",
-    "-1",
-];
-
-fn damage(random: &mut Random, words: &mut Vec<&str>) {
-    let places = words.len() - 1;
-    if places == 0 {
-        return;
-    }
-    // Mostly among the first words or the last ones.
-    let near = random.index(places.min(12));
-    let anywhere = random.index(places);
-    let place = 1 + random.pick(&[near, places - 1 - near, anywhere]);
-    match random.below(7) {
-        0 => words.truncate(place),
-        1 => drop(words.remove(place)),
-        2 => words.insert(place, words[place]),
-        3 => words.insert(place, random.pick(&WORDS)),
-        4 => words[place] = random.pick(&WORDS),
-        5 => words.swap(place, 1 + near),
-        _ => words[1] = random.pick(&ROOMS),
-    }
-}
-
-/// A length of the room, for an encoding of this length.
-fn room(random: &mut Random, length: usize) -> usize {
-    let room = match random.below(12) {
-        0..4 => length,
-        4 | 5 => length.saturating_sub(1),
-        6 => length + 1,
-        7 => random.index(length + 1),
-        8 => random.pick(&[0, 1]),
-        9 => length + random.index(100),
-        _ => random.pick(&[4096, MAX_ROOM - 1, MAX_ROOM]),
-    };
-    room.min(MAX_ROOM)
 }
 
 /// A reference that components can say, and what they say.

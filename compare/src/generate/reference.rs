@@ -23,28 +23,32 @@ impl Made {
 /// A reference with at most `slips` faults, each at a random place. Without slips it is refused only where its labels together are too
 /// long or look like an IPv4 address, or where it is longer than an input may be; that is seldom.
 pub fn reference(random: &mut Random, slips: u64) -> Made {
-    let room = match random.below(100) {
-        0..45 => 40,
-        45..97 => 900,
-        _ => 4000,
-    };
-    let mut maker = Maker {
-        random,
-        slips,
-        room,
-    };
-    maker.reference()
+    let mut maker = Maker::new(random, slips);
+    let opening = maker.opening();
+    maker.reference(opening)
+}
+
+/// The same, with a scheme that is set, and an authority.
+pub fn absolute(random: &mut Random, slips: u64) -> Made {
+    let mut maker = Maker::new(random, slips);
+    let opening = vec![maker.set_scheme(), maker.authority()];
+    maker.reference(opening)
+}
+
+/// The same, opened by a discard.
+pub fn discarding(random: &mut Random, discard: Item) -> Made {
+    Maker::new(random, 0).reference(vec![discard])
 }
 
 /// A reference of 1,022 to 1,026 bytes, valid but for its length.
 pub fn around_longest(random: &mut Random) -> Made {
-    let length = random.pick(&[1022, 1023, 1023, 1024, 1024, 1025, 1025, 1026]);
-    let mut maker = Maker {
-        random,
-        slips: 0,
-        room: usize::MAX,
-    };
-    maker.reference_of(length)
+    let mut maker = Maker::brief(random);
+    let mut items = maker.opening();
+    let (path, after) = maker.around_longest(&items);
+    let segments = path.len();
+    items.push(Item::Array(path));
+    items.extend(after);
+    Made::of(items, segments)
 }
 
 /// Lengths at which a head grows or a limit lies.
@@ -107,15 +111,37 @@ const BROKEN: [&[u8]; 26] = [
     b"\xF5\x80\x80\x80", b"\xFE", b"\xFF",
 ];
 
-struct Maker<'r> {
-    random: &'r mut Random,
+pub struct Maker<'r> {
+    pub random: &'r mut Random,
     /// How many faults may still be made.
     slips: u64,
     /// About how many bytes of text may still be made.
     room: usize,
 }
 
-impl Maker<'_> {
+impl<'r> Maker<'r> {
+    fn new(random: &'r mut Random, slips: u64) -> Self {
+        let room = match random.below(100) {
+            0..45 => 40,
+            45..97 => 900,
+            _ => 4000,
+        };
+        Maker {
+            random,
+            slips,
+            room,
+        }
+    }
+
+    /// Makes no faults, and short texts.
+    pub fn brief(random: &'r mut Random) -> Self {
+        Maker {
+            random,
+            slips: 0,
+            room: 100,
+        }
+    }
+
     /// Whether to make a fault here.
     fn slip(&mut self) -> bool {
         let slip = self.slips > 0 && self.random.chance(10);
@@ -123,8 +149,9 @@ impl Maker<'_> {
         slip
     }
 
-    fn reference(&mut self) -> Made {
-        let mut items = self.opening();
+    /// A reference with this opening.
+    fn reference(&mut self, opening: Vec<Item>) -> Made {
+        let mut items = opening;
         let least = items.len();
         let path = self.path();
         let segments = match &path {
@@ -144,7 +171,7 @@ impl Maker<'_> {
     }
 
     /// Leaves off the nulls at the end and a lone 0, but for a slip.
-    fn leave_off(&mut self, items: &mut Vec<Item>, least: usize) {
+    pub fn leave_off(&mut self, items: &mut Vec<Item>, least: usize) {
         while items.len() > least && matches!(items.last(), Some(Item::Null)) && !self.slip() {
             items.pop();
         }
@@ -153,26 +180,22 @@ impl Maker<'_> {
         }
     }
 
-    /// A reference whose encoding has `length` bytes, made long by its path.
-    fn reference_of(&mut self, length: usize) -> Made {
-        self.room = 100;
-        let mut items = self.opening();
+    /// A path, and items after it, that make with this opening an encoding of 1,022 to 1,026 bytes.
+    pub fn around_longest(&mut self, opening: &[Item]) -> (Vec<Item>, Vec<Item>) {
+        let lengths = [1022, 1023, 1023, 1024, 1024, 1025, 1025, 1026];
+        let length = self.random.pick(&lengths);
         let after = match self.random.below(3) {
             0 => vec![],
             1 => vec![Item::Array(vec![Item::Text(vec![b'q'; 3])])],
             _ => vec![Item::Null, Item::Text(vec![b'f'; 9])],
         };
-        let others = items
+        let others = opening
             .iter()
             .chain(&after)
             .map(|item| item.encoded().bytes.len());
         // Less the heads of the outer array and of the path.
         let left = length - 2 - others.sum::<usize>();
-        let path: Vec<Item> = self.filling(left);
-        let segments = path.len();
-        items.push(Item::Array(path));
-        items.extend(after);
-        Made::of(items, segments)
+        (self.filling(left), after)
     }
 
     /// Fewer than 24 texts whose encodings have `left` bytes together.
@@ -215,18 +238,24 @@ impl Maker<'_> {
     }
 
     fn scheme(&mut self) -> Item {
-        let slip = self.slip();
-        match (self.random.below(3), slip) {
-            (0, false) => Item::Null,
-            (0 | 1, true) => Item::Negative(self.random.pick(&UNKNOWN_SCHEMES)),
-            (1, false) => Item::Negative(self.random.pick(&KNOWN_SCHEMES)),
-            (_, false) => Item::Text(self.random.pick(&SCHEME_TEXTS).into()),
-            (_, true) if self.random.chance(20) => Item::Text(self.broken_text(5)),
-            (_, true) => Item::Text(self.random.pick(&BAD_SCHEME_TEXTS).into()),
+        match self.random.below(3) {
+            0 => Item::Null,
+            _ => self.set_scheme(),
         }
     }
 
-    fn authority(&mut self) -> Item {
+    pub fn set_scheme(&mut self) -> Item {
+        let slip = self.slip();
+        match (self.random.chance(50), slip) {
+            (true, false) => Item::Negative(self.random.pick(&KNOWN_SCHEMES)),
+            (true, true) => Item::Negative(self.random.pick(&UNKNOWN_SCHEMES)),
+            (false, false) => Item::Text(self.random.pick(&SCHEME_TEXTS).into()),
+            (false, true) if self.random.chance(20) => Item::Text(self.broken_text(5)),
+            (false, true) => Item::Text(self.random.pick(&BAD_SCHEME_TEXTS).into()),
+        }
+    }
+
+    pub fn authority(&mut self) -> Item {
         if self.slip() {
             return self.stranger();
         }
@@ -335,6 +364,11 @@ impl Maker<'_> {
         };
         let texts = self.texts(count, Self::segment);
         self.array_item(texts)
+    }
+
+    /// A path of so many short segments.
+    pub fn segments(&mut self, count: usize) -> Item {
+        Item::Array((0..count).map(|_| self.segment(true)).collect())
     }
 
     fn segment(&mut self, short: bool) -> Item {

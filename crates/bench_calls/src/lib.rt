@@ -3,7 +3,7 @@ ghost use mathlib.Core.Path.{_≡_};
 ghost use lib.ListN.{length};
 ghost use Rattle.rules.specs.Model.{limits, elements};
 ghost use Rattle.rules.specs.Writing.{readCall};
-ghost use Rattle.rules.specs.Calls.{outcome, after};
+ghost use Rattle.rules.specs.Calls.{outcome, after, resolveCall};
 ghost use Rattle.round_trip.specs.Again.{again};
 
 // The number of a link; its components are made too.
@@ -37,4 +37,18 @@ pub extern "C" fn bench_rewrite(s: &[u8], room: &mut [u8]) -> usize
 {
     let done = round_trip::rewrite(s, room);
     done.length
+}
+
+// An answer as one number; its length is one that was written.
+fn number_and_length(done: cri::Done) -> u64 {
+    done.number as u64 + 256 * ((done.length % 65536) as u64)
+}
+
+// A reference resolved against a base into the room: the number, and 256 times the length written.
+#[no_mangle]
+pub extern "C" fn bench_resolve(base: &[u8], reference: &[u8], room: &mut [u8]) -> u64
+    ensures { λ _. ⌜ now (room .exit) ≡ after (resolveCall limits (now (base .entry)) (now (reference .entry))) (now (room .entry)) ⌝ }
+{
+    let done = cri::resolve(base, reference, room);
+    number_and_length(done)
 }

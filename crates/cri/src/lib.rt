@@ -10,18 +10,20 @@
 //    5  a text that is not UTF-8
 //    6  an unknown scheme number, or a broken rule of a scheme, a label or a segment
 //    7  bytes after the array
+//    8  a base that is refused or not absolute
+//    9  a resolved CRI of over 32 segments or over 1,024 bytes
 //   10  the room is shorter than the output
 //   18  a path segment that is not there
 ghost use mathlib.Core.Path.{_≡_};
 ghost use lib.ListN.{length};
-ghost use Rattle.rules.specs.Calls.{outcome, after, writeCall};
+ghost use Rattle.rules.specs.Calls.{outcome, after, writeCall, resolveCall};
 ghost use Rattle.rules.specs.Model.{limits};
 ghost use Rattle.rules.specs.Writing.{readCall};
-ghost use Rattle.rules.specs.Views.{segmentView, segmentShown, numberOf};
+ghost use Rattle.rules.specs.Views.{segmentView, segmentShown, authorityView, pieceShown, numberOf};
 ghost use Rattle.components.specs.Content.{componentsOf};
 ghost use Rattle.components.specs.Layout.{readingLaid};
 ghost use Rattle.outcomes.specs.Answer.{doneIs};
-ghost use Rattle.views.specs.Parts.{PartOf};
+ghost use Rattle.views.specs.Parts.{PartOf, PieceOf};
 pub use cbor::Span;
 pub use components::Authority;
 pub use components::Components;
@@ -51,6 +53,16 @@ pub fn write(components: Components, lent: &[u8], room: &mut [u8]) -> Done
     writer::write(components, lent, room)
 }
 
+// Resolves a reference against a base, and writes the resolved CRI into the room: 0 and the length written. Or it refuses, with length 0,
+// and the room is as it was: 8 where the base is refused or not absolute; the number from 1 to 7 that `read` has for the reference;
+// 9 where the result has over 32 segments or over 1,024 bytes; 10 where the room is shorter than the result.
+pub fn resolve(base: &[u8], reference: &[u8], room: &mut [u8]) -> Done
+    ensures { λ r. ⌜ doneIs r ≡ outcome (resolveCall limits (now (base .entry)) (now (reference .entry))) (length (now (room .entry))) ⌝ }
+    ensures { λ _. ⌜ now (room .exit) ≡ after (resolveCall limits (now (base .entry)) (now (reference .entry))) (now (room .entry)) ⌝ }
+{
+    resolver::resolve(base, reference, room)
+}
+
 // The n-th path segment of a reference, from 0: the part of s that holds its bytes. Where `segment_number` is not 0, the empty
 // part at the start of s.
 pub fn segment(s: &[u8], n: usize) -> &[u8]
@@ -64,4 +76,20 @@ pub fn segment_number(s: &[u8], n: usize) -> u8
     ensures { λ r. ⌜ r ≡ numberOf (segmentView limits (now (s .entry)) n) ⌝ }
 {
     views::segment_number(s, n)
+}
+
+// The authority that the reference brings, else the base's: the part of that slice which holds the whole encoded item. Where
+// `authority_number` is not 0, the empty part at the start of the reference.
+pub fn authority<'a>(reference: &'a [u8], base: &'a [u8]) -> &'a [u8]
+    ensures { λ r. ⌜ PieceOf (reference .entry) (base .entry) r (pieceShown (authorityView limits (now (reference .entry)) (now (base .entry)))) ⌝ }
+{
+    views::authority(reference, base)
+}
+
+// The number of that call: 0 where the authority is shown; 8 where the base is refused or not absolute; 1 to 7 where the reference is
+// refused.
+pub fn authority_number(reference: &[u8], base: &[u8]) -> u8
+    ensures { λ r. ⌜ r ≡ numberOf (authorityView limits (now (reference .entry)) (now (base .entry))) ⌝ }
+{
+    views::authority_number(reference, base)
 }

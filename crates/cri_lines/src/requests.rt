@@ -1,4 +1,4 @@
-// The requests. A new one is a function here and a line of `answer`.
+// The requests. A new one is a function here and a line of `answer`; with a room, also a line of `lend`.
 ghost use Prim.Native.Nat.{_≤_};
 use crate::components_words::put_components;
 use crate::output::Output;
@@ -36,6 +36,16 @@ fn put_fault(out: &mut Output, used: usize, fault: Fault) -> usize
         Fault::TooMany => put_text(out, used, b"? too many words"),
         Fault::None => used,
     }
+}
+
+// The answer of a view: its number and its bytes.
+fn put_view(out: &mut Output, used: usize, number: u8, view: &[u8]) -> usize
+    requires { ⌜ used ≤ 65536 ⌝ }
+    ensures { λ r. ⌜ r ≤ 65536 ⌝ }
+{
+    let space = put_number(out, used, number as u64);
+    let bytes = put_byte(out, space, b' ');
+    put_bytes(out, bytes, view)
 }
 
 // read HEX
@@ -78,13 +88,38 @@ fn segment(out: &mut Output, used: usize, line: &[u8], c: Cursor) -> usize
     let n = bytes.length;
     let s = &room[..n];
     let k = number.value as usize;
-    let a = put_number(out, used, cri::segment_number(s, k) as u64);
-    let b = put_byte(out, a, b' ');
-    put_bytes(out, b, cri::segment(s, k))
+    put_view(out, used, cri::segment_number(s, k), cri::segment(s, k))
 }
 
-// The answer of `write` into this room, from the words of the components on.
-fn write_to(
+// authority REFERENCE BASE
+fn authority(out: &mut Output, used: usize, line: &[u8], c: Cursor) -> usize
+    requires { ⌜ used ≤ 65536 ⌝ }
+    ensures { λ r. ⌜ r ≤ 65536 ⌝ }
+{
+    let mut first = [0u8; 32768];
+    let mut second = [0u8; 32768];
+    let taken = take_bytes(&mut first, line, c);
+    let after = taken.rest;
+    let bytes = take_bytes(&mut second, line, after);
+    let rest = bytes.rest;
+    let fault = finish(line, rest);
+    if is_fault(fault) {
+        return put_fault(out, used, fault);
+    }
+    let n = taken.length;
+    let m = bytes.length;
+    let reference = &first[..n];
+    let base = &second[..m];
+    put_view(
+        out,
+        used,
+        cri::authority_number(reference, base),
+        cri::authority(reference, base),
+    )
+}
+
+// write ROOM LENT WORD.., from the words of the components on
+fn write(
     out: &mut Output,
     used: usize,
     room: &mut [u8],
@@ -106,8 +141,38 @@ fn write_to(
     put_done(out, used, room, done)
 }
 
-// write ROOM LENT WORD..
-fn write(out: &mut Output, used: usize, line: &[u8], c: Cursor) -> usize
+// resolve ROOM BASE REFERENCE, from the reference on
+fn resolve(
+    out: &mut Output,
+    used: usize,
+    room: &mut [u8],
+    base: &[u8],
+    line: &[u8],
+    c: Cursor,
+) -> usize
+    requires { ⌜ used ≤ 65536 ⌝ }
+    ensures { λ r. ⌜ r ≤ 65536 ⌝ }
+{
+    let mut lent = [0u8; 32768];
+    let bytes = take_bytes(&mut lent, line, c);
+    let rest = bytes.rest;
+    let fault = finish(line, rest);
+    if is_fault(fault) {
+        return put_fault(out, used, fault);
+    }
+    let n = bytes.length;
+    let done = cri::resolve(base, &lent[..n], room);
+    put_done(out, used, room, done)
+}
+
+// The calls that are lent a room.
+enum Call {
+    Write,
+    Resolve,
+}
+
+// The words ROOM and HEX, and what the call answers from there on.
+fn lend(out: &mut Output, used: usize, line: &[u8], c: Cursor, call: Call) -> usize
     requires { ⌜ used ≤ 65536 ⌝ }
     ensures { λ r. ⌜ r ≤ 65536 ⌝ }
 {
@@ -120,7 +185,10 @@ fn write(out: &mut Output, used: usize, line: &[u8], c: Cursor) -> usize
     let third = bytes.rest;
     let k = size.length;
     let n = bytes.length;
-    write_to(out, used, &mut room[..k], &lent[..n], line, third)
+    match call {
+        Call::Write => write(out, used, &mut room[..k], &lent[..n], line, third),
+        Call::Resolve => resolve(out, used, &mut room[..k], &lent[..n], line, third),
+    }
 }
 
 // The answer to a line, by its first word.
@@ -141,7 +209,13 @@ pub fn answer(out: &mut Output, used: usize, line: &[u8]) -> usize
         return segment(out, used, line, c);
     }
     if check::same(name, b"write") {
-        return write(out, used, line, c);
+        return lend(out, used, line, c, Call::Write);
+    }
+    if check::same(name, b"resolve") {
+        return lend(out, used, line, c, Call::Resolve);
+    }
+    if check::same(name, b"authority") {
+        return authority(out, used, line, c);
     }
     if line.len() == 0 {
         return put_text(out, used, b"? an empty line");

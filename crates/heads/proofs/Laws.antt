@@ -6,11 +6,12 @@ use mathlib.Core.Bool.{Bool, true}
 use mathlib.Core.List.{[], _++_}
 use lib.ListN.{length, drop, length-drop, length-append}
 use lib.Seq.{drop-append-seam}
-use lib.Dec.{ltb}
+use lib.Dec.{ltb, leb}
+use borrow.Author.Tests.{leb-true}
 use Rattle.rules.specs.Bytes.{Bytes}
 use Rattle.rules.specs.Result.{Res, refused, ok, _>>=_}
 use Rattle.rules.specs.Head.{Kind, Number, Negative, ByteString, Text, Array, True, Null, Other, Head, width, shortest, headAt, readHead, majorOf, headBytes}
-use Rattle.rules.proofs.Tools.{tests, cond-split}
+use Rattle.rules.proofs.Tools.{tests, cond-split, below}
 use Rattle.rules.proofs.Steps.{yes!, yes-use}
 use Rattle.rules.proofs.Heads.{Fits, length-big, Spelled, spelled, yes-head}
 use Rattle.cbor.specs.Heads.{accepted}
@@ -38,6 +39,12 @@ major-most Other = omega arith
 pub length-head : (k : Kind) (v i w : ℕ) → shortest v ≡ i → width i ≡ w → 1 + w ≡ length (headBytes k v)
 unfolding headBytes
 length-head k v i w s e = omega (arith, length-big (width (shortest v)) v [], ap width s ∙ e)
+
+-- a head has at most nine bytes
+pub head-most : (k : Kind) (v : ℕ) → length (headBytes k v) ≤ 9
+unfolding headBytes width
+head-most k v =
+    omega (arith, length-big (width (shortest v)) v [], leb-true (width (shortest v)) 8 (below 28 (λ (i : ℕ). leb (width i) 8) refl (shortest v) (omega (arith, shortest-most v))))
 
 bind-self : {A : Type 0} (m : Res A) → (m >>= ok) ≡ m
 unfolding _>>=_

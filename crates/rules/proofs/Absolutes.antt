@@ -7,7 +7,7 @@ use mathlib.Core.List.{List, [], _∷_}
 use mathlib.Core.Option.{Option, none, some}
 use lib.ListN.{length}
 use lib.Dec.{leb}
-use borrow.Author.Tests.{leb-true}
+use borrow.Author.Tests.{leb-true, le-leb}
 use Rattle.rules.specs.Bytes.{Bytes, Each, Octets}
 use Rattle.rules.specs.Result.{Res, refused, ok, given, _>>=_, BASE}
 use Rattle.rules.specs.Model.{Opening, discard, discardAll, full, Reference, Limits, Cri, elements, absolute, reference, setPath}
@@ -16,7 +16,7 @@ use Rattle.rules.specs.Meaning.{readReference, readAbsolute}
 use Rattle.rules.specs.Encode.{encode}
 use Rattle.rules.specs.Valid.{If, Good, GoodTexts, GoodAuthority, GoodScheme, GoodOpening, Valid}
 use Rattle.rules.specs.Resolve.{fits}
-use Rattle.rules.proofs.Tools.{and-left, and-right, is-within}
+use Rattle.rules.proofs.Tools.{and-left, and-right, and-both, within-high, is-within}
 use Rattle.rules.proofs.Steps.{refused-ok, none-some, bind-ok, ok-at}
 use Rattle.rules.proofs.Reading.{canonical, complete}
 
@@ -47,6 +47,13 @@ absolute-parts (full (some s) (some a)) p q f c e =
 
 pub absolute-is : (r : Reference) (c : Cri) → absolute r ≡ some c → Absolute r c
 absolute-is r c e = absolute-parts (r .opening) (r .path) (r .query) (r .fragment) c e
+
+-- the reference of a CRI, its path given as p
+abbrev pub withPath : Cri → Option (List Bytes) → Reference
+withPath c p = record { opening = full (some (c .scheme)) (some (c .authority)); path = p; query = c .query; fragment = c .fragment }
+
+pub absolute-same : (r : Reference) (c : Cri) → Absolute r c → r ≡ withPath c (r .path)
+absolute-same r c a = λ i. record { opening = a .opening i; path = r .path; query = a .query i; fragment = a .fragment i }
 
 elements-setPath : (ts : List Bytes) → elements (setPath ts) ≡ ts
 elements-setPath [] = refl
@@ -122,6 +129,15 @@ fits-valid lim c g e =
       fragment = g .fragment;
       size = leb-true _ _ (and-right (leb (length (c .path)) (lim .segments)) _ e);
     }
+
+-- and a CRI whose reference is valid fits
+set-count : (n : ℕ) (ts : List Bytes) → If (GoodTexts segment 0 n) (setPath ts) → length ts ≤ n
+set-count n [] g = omega arith
+set-count n (t ∷ ts) g = within-high 0 n _ (g .count)
+
+pub valid-fits : (lim : Limits) (c : Cri) → Valid lim (reference c) → fits lim c ≡ true
+unfolding fits reference
+valid-fits lim c v = and-both _ _ (le-leb _ _ (set-count (lim .segments) (c .path) (v .path))) (le-leb _ _ (v .size))
 
 pub fits-read : (lim : Limits) → lim .segments < 2 ^ 64 → (c : Cri) → GoodCri c → fits lim c ≡ true → readAbsolute lim (encode (reference c)) ≡ ok c
 unfolding readAbsolute given

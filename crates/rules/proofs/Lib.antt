@@ -7,6 +7,8 @@ pub mod Authorities
 pub mod Openings
 pub mod Reading
 pub mod Standing
+pub mod Laid
+pub mod Rows
 pub mod Numbers
 pub mod RoundTrips
 pub mod Absolutes
@@ -19,5 +21,6 @@ pub mod UnText
 pub mod TextBack
 pub mod TextBound
 pub mod Resolving
+pub mod Again
 pub mod Compute
 pub mod Proved

@@ -1,31 +1,34 @@
 -- Each promise of specs/Promises.antt, proved.
 use Prim.Native.Nat.{ℕ, _+_, _*_, _≤_}
 use native.Mathlib.Omega.{arith}
-use mathlib.Core.Path.{_≡_, refl, sym, ap, _∙_}
-use mathlib.Core.Bool.{Bool}
+use mathlib.Core.Path.{_≡_, refl, sym, ap, _∙_, subst}
+use mathlib.Core.List.{List}
+use mathlib.Core.Option.{Option}
 use lib.ListN.{length, drop}
 use lib.Seq.{take-at}
 use borrow.Author.Tests.{le-ltb}
-use Rattle.rules.specs.Bytes.{Bytes}
-use Rattle.rules.specs.Result.{ok, need, _>>_, RESULT}
-use Rattle.rules.specs.Model.{Limits, Cri, reference}
+use Rattle.rules.specs.Bytes.{Bytes, hex}
+use Rattle.rules.specs.Result.{ok, need, _>>_}
+use Rattle.rules.specs.Model.{Limits, Cri, reference, normal}
 use Rattle.rules.specs.Meaning.{readReference, readAbsolute}
 use Rattle.rules.specs.Encode.{encode}
+use Rattle.rules.specs.Valid.{Valid}
 use Rattle.rules.specs.Resolve.{resolve}
 use Rattle.rules.specs.Text.{uriText}
 use Rattle.rules.specs.Calls.{Ruling, write, ruling, Done, outcome, after, printed, textCall, resolveCall}
 use Rattle.rules.specs.Cases.{starred, unstarred, slips, refusals, requests, addresses}
 use Rattle.rules.specs.Promises as P
-use Rattle.rules.specs.Promises.{done, shown, Writes}
+use Rattle.rules.specs.Promises.{done, shown, Writes, unfragmented}
 use Rattle.rules.proofs.Steps.{ok-at, bind-ok}
 use Rattle.rules.proofs.Reading.{canonical, complete, prefix-refused, prefix-accepted}
 use Rattle.rules.proofs.Numbers.{numbers}
 use Rattle.rules.proofs.RoundTrips.{read-write, write-read}
 use Rattle.rules.proofs.Encoding.{encode-octets}
-use Rattle.rules.proofs.Absolutes.{GoodCri, good-read, fits-valid, fits-read}
+use Rattle.rules.proofs.Absolutes.{withPath, absolute-same, read-as, GoodCri, good-read, fits-valid, valid-fits, fits-read}
 use Rattle.rules.proofs.TextBack.{text-same}
 use Rattle.rules.proofs.TextBound.{read-bound}
-use Rattle.rules.proofs.Resolving.{good-resolve, resolved-is, resolve-nothing, resolve-empty}
+use Rattle.rules.proofs.Resolving.{nothing, resolve-nothing, resolve-empty, resolve-again, resolve-absolute, good-resolve, resolved-is, resolve-writes}
+use Rattle.rules.proofs.Again.{encode-some, valid-unfragmented, valid-normal, read-nothing}
 use Rattle.rules.proofs.Compute.{computed}
 
 pub canonical-proved : P.Canonical
@@ -105,12 +108,11 @@ unfolding resolveCall need _>>_
 resolving-proved lim small base ref b r hb hr eb er =
     let c : Cri = resolve b r in
     let g : GoodCri c = good-resolve lim b r (good-read lim base b hb eb) (ok-at (canonical lim ref hr) er .1) in
-    let is = resolved-is lim base ref b r eb er in
     record {
-      written = λ e. ap ruling (is ∙ ap (λ (t : Bool). need t RESULT 0 >> ok (encode (reference c))) e);
+      written = resolve-writes lim base ref b r c eb er refl;
       valid = fits-valid lim c g;
       again = fits-read lim small c g;
-      refusal = λ e. ap ruling (is ∙ ap (λ (t : Bool). need t RESULT 0 >> ok (encode (reference c))) e);
+      refusal = λ e. rw (resolved-is lim base ref b r eb er, e);
     }
 
 pub empty-reference-proved : P.EmptyReference
@@ -118,6 +120,24 @@ empty-reference-proved = resolve-nothing
 
 pub empty-path-array-proved : P.EmptyPathArray
 empty-path-array-proved = resolve-empty
+
+pub resolved-again-proved : P.ResolvedAgain
+resolved-again-proved lim small base ref b r hb hr eb er e =
+    let c : Cri = resolve b r in
+    let was = resolving-proved lim small base ref b r hb hr eb er in
+    let v : Valid lim (reference c) = was .valid e in
+    resolve-writes lim (encode (reference c)) (hex "80") c nothing (unfragmented c) (was .again e) (read-nothing lim (omega (arith, v .size, encode-some (reference c))))
+    (resolve-again b r) (valid-fits lim (unfragmented c) (valid-unfragmented lim c v))
+
+pub absolute-reference-proved : P.AbsoluteReference
+unfolding reference normal
+absolute-reference-proved lim base ref b c h eb ec =
+    let a = read-as lim ref c ec in
+    let p : Option (List Bytes) = a .said .path in
+    let same : a .said ≡ withPath c p = absolute-same (a .said) c (a .is) in
+    let v : Valid lim (withPath c p) = subst (Valid lim) same (ok-at (canonical lim ref h) (a .read) .1) in
+    resolve-writes lim base ref b (a .said) (normal c) eb (a .read) (ap (resolve b) same ∙ resolve-absolute b c p (a .is .path))
+    (valid-fits lim (normal c) (rw (a .is .path) at (valid-normal lim c p v)))
 
 -- ---- worked examples
 

@@ -34,7 +34,7 @@ pub same-reference : {o o′ : Opening Bytes} {p p′ q q′ : Option (List Byte
 same-reference a b c d = λ i. record { opening = a i; path = b i; query = c i; fragment = d i }
 
 -- what positions say is their meaning
-abbrev said : Bytes → OpeningAt → Slot → Slot → Slot → Reference
+abbrev pub said : Bytes → OpeningAt → Slot → Slot → Slot → Reference
 said bs o p q f = record { opening = saidOpening bs o; path = saidTexts bs p; query = saidTexts bs q; fragment = saidText bs f }
 
 -- ---- canonical
@@ -98,7 +98,7 @@ opening-said bs (discardAt k) = refl
 opening-said bs discardAllAt = refl
 opening-said bs (fullAt s a) = ap₂ full (scheme-said bs s) (ap some (same-authority (host-said bs (a .host)) refl))
 
-meaning-said : (bs : Bytes) (o : OpeningAt) (p q f : Slot) → meaning bs (record { opening = o; path = p; query = q; fragment = f }) ≡ said bs o p q f
+pub meaning-said : (bs : Bytes) (o : OpeningAt) (p q f : Slot) → meaning bs (record { opening = o; path = p; query = q; fragment = f }) ≡ said bs o p q f
 unfolding meaning components
 meaning-said bs o p q f = same-reference (opening-said bs o) (texts-said bs p) (texts-said bs q) (text-said bs f)
 

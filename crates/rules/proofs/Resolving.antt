@@ -1,21 +1,24 @@
 -- The laws of resolving: each step keeps the rules, so the result of what was read is valid where it fits.
 use Prim.Native.Nat.{ℕ, zero, suc, _-_}
 use mathlib.Core.Path.{_≡_, refl, ap, _∙_}
+use mathlib.Core.Bool.{true}
 use mathlib.Core.List.{List, [], _∷_, append-nil}
 use mathlib.Core.Option.{Option, none, some, Option·getD}
 use lib.ListN.{length}
 use Rattle.rules.specs.Bytes.{Bytes, Each}
 use Rattle.rules.specs.Result.{ok, need, _>>=_, _>>_, RESULT}
-use Rattle.rules.specs.Model.{Scheme, Authority, Opening, discard, discardAll, full, Reference, Limits, Cri, reference, normalPath, normal}
+use Rattle.rules.specs.Model.{Scheme, Authority, Opening, discard, discardAll, full, Reference, Limits, Cri, elements, reference, normalPath, normal}
 use Rattle.rules.specs.Rules.{segment, parameter, fragmentText}
 use Rattle.rules.specs.Meaning.{readReference, readAbsolute}
 use Rattle.rules.specs.Encode.{encode}
 use Rattle.rules.specs.Valid.{If, Good, GoodTexts, GoodAuthority, GoodScheme, GoodOpening, Valid}
 use Rattle.rules.specs.Resolve.{start, cleared, discarded, appended, or, unlessSet, openingScheme, openingAuthority, copied, resolve, fits, resolved}
+use Rattle.rules.specs.Calls.{write, resolveCall}
+use Rattle.rules.specs.Promises.{unfragmented}
 use Rattle.rules.proofs.Tools.{each-append, each-take}
-use Rattle.rules.proofs.Absolutes.{GoodCri}
+use Rattle.rules.proofs.Absolutes.{withPath, GoodCri}
 
--- ---- references that change nothing but the fragment, or that set an empty path
+-- ---- references that change nothing but the fragment, that set an empty path, or that are absolute
 
 normal-twice : (ts : List Bytes) → normalPath (normalPath ts) ≡ normalPath ts
 unfolding normalPath
@@ -24,7 +27,16 @@ normal-twice ([] ∷ []) = refl
 normal-twice ([] ∷ (u ∷ ts)) = refl
 normal-twice ((b ∷ t) ∷ ts) = refl
 
-pub resolve-nothing : (b : Cri) → resolve b (record { opening = discard 0; path = none; query = none; fragment = none })
+-- the path of a result is normal already
+result-normal : (b : Cri) (r : Reference) → normalPath (resolve b r .path) ≡ resolve b r .path
+unfolding resolve normal
+result-normal b r = simp normal-twice
+
+-- what the reference 80 says
+abbrev pub nothing : Reference
+nothing = record { opening = discard 0; path = none; query = none; fragment = none }
+
+pub resolve-nothing : (b : Cri) → resolve b nothing
     ≡ record { scheme = b .scheme; authority = b .authority; path = normalPath (b .path); query = b .query; fragment = none }
 unfolding resolve start discarded appended copied normal
 resolve-nothing b =
@@ -33,6 +45,26 @@ resolve-nothing b =
 pub resolve-empty : (b : Cri) → resolve b (record { opening = discard 0; path = some []; query = none; fragment = none }) ≡ cleared b (normalPath (b .path))
 unfolding resolve start discarded appended copied normal
 resolve-empty b = ap (cleared b) (ap normalPath (append-nil (normalPath (b .path))) ∙ normal-twice (b .path))
+
+pub resolve-again : (b : Cri) (r : Reference) → resolve (resolve b r) nothing ≡ unfragmented (resolve b r)
+resolve-again b r = resolve-nothing (resolve b r) ∙ rw (result-normal b r)
+
+-- an absolute reference replaces all of the base
+pub resolve-absolute : (b c : Cri) (p : Option (List Bytes)) → elements p ≡ c .path → resolve b (withPath c p) ≡ normal c
+unfolding resolve start discarded appended copied normal
+resolve-absolute b c p e = rw (← e) (go p (c .query) (c .fragment))
+  where
+    go : (p q : Option (List Bytes)) (f : Option Bytes)
+        → resolve b (record { opening = full (some (c .scheme)) (some (c .authority)); path = p; query = q; fragment = f })
+        ≡ record { scheme = c .scheme; authority = c .authority; path = normalPath (elements p); query = q; fragment = f }
+    go none none none = refl
+    go none none (some f) = refl
+    go none (some q) none = refl
+    go none (some q) (some f) = refl
+    go (some p) none none = refl
+    go (some p) none (some f) = refl
+    go (some p) (some q) none = refl
+    go (some p) (some q) (some f) = refl
 
 -- ---- each step keeps the rules
 
@@ -110,3 +142,8 @@ pub resolved-is : (lim : Limits) (base ref : Bytes) (b : Cri) (r : Reference) �
     → resolved lim base ref ≡ (need (fits lim (resolve b r)) RESULT 0 >> ok (encode (reference (resolve b r))))
 unfolding resolved _>>=_
 resolved-is lim base ref b r e f = rw (e, f)
+
+pub resolve-writes : (lim : Limits) (base ref : Bytes) (b : Cri) (r : Reference) (c : Cri) → readAbsolute lim base ≡ ok b → readReference lim ref ≡ ok r
+    → resolve b r ≡ c → fits lim c ≡ true → resolveCall lim base ref ≡ write (encode (reference c))
+unfolding resolveCall need _>>_
+resolve-writes lim base ref b r c eb er e f = rw (resolved-is lim base ref b r eb er, e, f)

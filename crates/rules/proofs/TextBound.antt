@@ -24,7 +24,7 @@ use Rattle.rules.proofs.Steps.{ok-at}
 use Rattle.rules.proofs.Heads.{head-some, head-two}
 use Rattle.rules.proofs.Openings.{of-schemes}
 use Rattle.rules.proofs.Reading.{canonical}
-use Rattle.rules.proofs.Absolutes.{ReadAs, read-as, GoodCri, good-read}
+use Rattle.rules.proofs.Absolutes.{withPath, absolute-same, ReadAs, read-as, GoodCri, good-read}
 use Rattle.rules.proofs.Escapes.{escape-length}
 use Rattle.rules.proofs.Numerals.{decimal-length, decimal-two, decimal-three}
 use Rattle.rules.proofs.Addresses.{ipv6-length}
@@ -142,7 +142,7 @@ encode-length s a xs =
     omega (arith, array-length every)
 
 pub cri-bound : (c : Cri) (p : Option (List Bytes)) → elements p ≡ c .path → GoodCri c
-    → length (uriText c) ≤ 3 * length (encode (record { opening = full (some (c .scheme)) (some (c .authority)); path = p; query = c .query; fragment = c .fragment })) + 13
+    → length (uriText c) ≤ 3 * length (encode (withPath c p)) + 13
 unfolding uriText hierarchyText encode
 cri-bound c p e g =
     let t : rest p (c .query) (c .fragment) ≤ 3 * length (concat (tailItems p (c .query) (c .fragment))) = tail-length p (c .query) (c .fragment) in
@@ -153,6 +153,4 @@ pub read-bound : (lim : Limits) (bs : Bytes) (c : Cri) → Octets bs → readAbs
 read-bound lim bs c h e =
     let r : ReadAs lim bs c = read-as lim bs c e in
     let k : encode (r .said) ≡ bs = ok-at (canonical lim bs h) (r .read) .0 in
-    let same : r .said ≡ record { opening = full (some (c .scheme)) (some (c .authority)); path = r .said .path; query = c .query; fragment = c .fragment } =
-    λ i. record { opening = r .is .opening i; path = r .said .path; query = r .is .query i; fragment = r .is .fragment i } in
-    subst (λ (n : ℕ). length (uriText c) ≤ 3 * n + 13) (ap length (sym (ap encode same) ∙ k)) (cri-bound c (r .said .path) (r .is .path) (good-read lim bs c h e))
+    subst (λ (n : ℕ). length (uriText c) ≤ 3 * n + 13) (ap length (sym (ap encode (absolute-same (r .said) c (r .is))) ∙ k)) (cri-bound c (r .said .path) (r .is .path) (good-read lim bs c h e))

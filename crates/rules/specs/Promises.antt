@@ -6,9 +6,9 @@ use mathlib.Core.List.{[], _∷_, _++_, map}
 use mathlib.Core.Logic.{_↔_}
 use mathlib.Core.Option.{none, some}
 use lib.ListN.{length, take}
-use Rattle.rules.specs.Bytes.{Bytes, Octets}
+use Rattle.rules.specs.Bytes.{Bytes, Octets, hex}
 use Rattle.rules.specs.Result.{refused, ok, CUT, TAIL, RESULT}
-use Rattle.rules.specs.Model.{discard, Reference, Components, mapParts, Limits, Cri, reference, normalPath, Same}
+use Rattle.rules.specs.Model.{discard, Reference, Components, mapParts, Limits, Cri, reference, normalPath, normal, Same}
 use Rattle.rules.specs.Reader.{taken, Found, read}
 use Rattle.rules.specs.Meaning.{readReference, readAbsolute}
 use Rattle.rules.specs.Encode.{encode}
@@ -130,6 +130,23 @@ abbrev pub EmptyPathArray : Type 0
 EmptyPathArray =
     (b : Cri) → resolve b (record { opening = discard 0; path = some []; query = none; fragment = none })
     ≡ record { scheme = b .scheme; authority = b .authority; path = normalPath (b .path); query = none; fragment = none }
+
+-- the CRI without its fragment
+abbrev pub unfragmented : Cri → Cri
+unfragmented c = record { scheme = c .scheme; authority = c .authority; path = c .path; query = c .query; fragment = none }
+
+-- resolving a result by the reference 80 gives it again, without its fragment
+abbrev pub ResolvedAgain : Type 0
+ResolvedAgain =
+    (lim : Limits) → lim .segments < 2 ^ 64 → (base ref : Bytes) (b : Cri) (r : Reference) → Octets base → Octets ref
+    → readAbsolute lim base ≡ ok b → readReference lim ref ≡ ok r → fits lim (resolve b r) ≡ true
+    → resolveCall lim (encode (reference (resolve b r))) (hex "80") ≡ write (encode (reference (unfragmented (resolve b r))))
+
+-- an absolute reference resolves to itself in normal form, whatever the base, and never gets 9
+abbrev pub AbsoluteReference : Type 0
+AbsoluteReference =
+    (lim : Limits) (base ref : Bytes) (b c : Cri) → Octets ref → readAbsolute lim base ≡ ok b → readAbsolute lim ref ≡ ok c
+    → resolveCall lim base ref ≡ write (encode (reference (normal c)))
 
 -- ---- worked examples, by computing
 

@@ -1,20 +1,25 @@
-// Parts of a lent input that show what it holds.
+// Parts of lent inputs that show what they hold.
 ghost use mathlib.Core.Path.{_≡_};
-ghost use Prim.Native.Nat.{suc};
+ghost use mathlib.Core.Option.{none};
+ghost use Prim.Native.Nat.{suc, _-_, _≤_};
 ghost use lib.ListN.{getElem?};
-ghost use Rattle.rules.specs.Result.{given, NONE};
+ghost use Rattle.rules.specs.Result.{ok, given, NONE};
 ghost use Rattle.rules.specs.Model.{elements, limits};
 ghost use Rattle.rules.specs.Reader.{spanAt};
 ghost use Rattle.rules.specs.Meaning.{textSpans};
-ghost use Rattle.rules.specs.Views.{segmentView, segmentShown, numberOf};
+ghost use Rattle.rules.specs.Views.{segmentView, authoritySpan, chosen, authorityView, segmentShown, pieceShown, numberOf};
 ghost use Rattle.rules.proofs.Texts.{Items};
 ghost use Rattle.rules.proofs.Standing.{TextsStand};
+ghost use Rattle.rules.proofs.Laid.{Ordered};
 ghost use Rattle.cbor.specs.Heads.{spanIs};
-ghost use Rattle.reader.specs.Code.{slotOf};
-ghost use Rattle.views.specs.Parts.{PartOf, viewIs, nthAt};
+ghost use Rattle.reader.specs.Code.{slotOf, openingOf};
+ghost use Rattle.runs.specs.Rows.{nthAt};
+ghost use Rattle.views.specs.Parts.{PartOf, PieceOf, viewIs, pieceIs};
 use cbor::Span;
 use cbor::span_at;
 use reader::Answer;
+use reader::AuthorityAt;
+use reader::OpeningAt;
 use reader::Slot;
 
 // Where a part stands; or a refusal's number and place.
@@ -23,19 +28,21 @@ enum View {
     Refused(u8, usize),
 }
 
+// A part of the reference, or of the base; or a refusal's number and place.
+enum Piece {
+    OfReference(Span),
+    OfBase(Span),
+    Refused(u8, usize),
+}
+
+// ---- path segments
+
 // Where the content of the n-th item stands, from 0, of those that stand in a row from a position on.
 fn nth_span(s: &[u8], at: usize, n: usize) -> Span
     requires { ⌜ Items (now s) at (suc n) ⌝ }
     ensures { λ r. ⌜ spanIs r ≡ spanAt (now (s .entry)) (nthAt (now (s .entry)) at n) ⌝ }
 {
-    let mut next = at;
-    let mut left = n;
-    while 0 < left {
-        let span = span_at(s, next);
-        next = span.start + span.length;
-        left -= 1;
-    }
-    span_at(s, next)
+    span_at(s, runs::after(s, at, n))
 }
 
 // The n-th segment of a path.
@@ -89,5 +96,95 @@ pub fn segment_number(s: &[u8], n: usize) -> u8
     match segment_at(s, n) {
         View::At(_) => 0,
         View::Refused(k, _) => k,
+    }
+}
+
+// ---- authority
+
+// Where the whole item of an authority stands.
+fn item_span(authority: AuthorityAt) -> Span
+    requires { ⌜ authority .at ≤ authority .next ⌝ }
+    ensures { λ r. ⌜ spanIs r ≡ record { start = authority .at; length = authority .next - authority .at } ⌝ }
+{
+    Span {
+        start: authority.at,
+        length: authority.next - authority.at,
+    }
+}
+
+// The base's authority.
+fn base_item(base: OpeningAt) -> Piece
+    requires { ⌜ Ordered (openingOf base) ⌝ }
+    ensures { λ r. ⌜ pieceIs r ≡ ok (chosen none (authoritySpan (openingOf base))) ⌝ }
+{
+    match base {
+        OpeningAt::Discard(_) => Piece::OfReference(Span {
+            start: 0,
+            length: 0,
+        }),
+        OpeningAt::DiscardAll => Piece::OfReference(Span {
+            start: 0,
+            length: 0,
+        }),
+        OpeningAt::Full(_, authority) => Piece::OfBase(item_span(authority)),
+    }
+}
+
+// The reference's own authority, else the base's.
+fn chosen_item(reference: OpeningAt, base: OpeningAt) -> Piece
+    requires { ⌜ Ordered (openingOf reference) × Ordered (openingOf base) ⌝ }
+    ensures { λ r. ⌜ pieceIs r ≡ ok (chosen (authoritySpan (openingOf reference)) (authoritySpan (openingOf base))) ⌝ }
+{
+    match reference {
+        OpeningAt::Discard(_) => base_item(base),
+        OpeningAt::DiscardAll => base_item(base),
+        OpeningAt::Full(_, authority) => Piece::OfReference(item_span(authority)),
+    }
+}
+
+// The authority that the reference brings, else the base's. The base is judged first.
+fn authority_at(reference: &[u8], base: &[u8]) -> Piece
+    ensures { λ r. ⌜ pieceIs r ≡ authorityView limits (now (reference .entry)) (now (base .entry)) ⌝ }
+{
+    match absolutes::read_base(base) {
+        Answer::Refused(k, place) => Piece::Refused(k, place),
+        Answer::Is(b) => match reader::read(reference) {
+            Answer::Refused(k, place) => Piece::Refused(k, place),
+            Answer::Is(r) => {
+                let own = r.opening;
+                let other = b.opening;
+                chosen_item(own, other)
+            }
+        },
+    }
+}
+
+// The authority that the reference brings, else the base's: the whole encoded item, as a part of the slice that has it; the empty part at the start of the reference where it can't be given.
+pub fn authority<'a>(reference: &'a [u8], base: &'a [u8]) -> &'a [u8]
+    ensures { λ r. ⌜ PieceOf (reference .entry) (base .entry) r (pieceShown (authorityView limits (now (reference .entry)) (now (base .entry)))) ⌝ }
+{
+    match authority_at(reference, base) {
+        Piece::OfReference(span) => {
+            let start = span.start;
+            let end = start + span.length;
+            &reference[start..end]
+        }
+        Piece::OfBase(span) => {
+            let start = span.start;
+            let end = start + span.length;
+            &base[start..end]
+        }
+        Piece::Refused(_, _) => &reference[..0],
+    }
+}
+
+// 0 where it is given; 8 where the base is refused or not absolute; 1 to 7 where the reference is refused.
+pub fn authority_number(reference: &[u8], base: &[u8]) -> u8
+    ensures { λ r. ⌜ r ≡ numberOf (authorityView limits (now (reference .entry)) (now (base .entry))) ⌝ }
+{
+    match authority_at(reference, base) {
+        Piece::OfReference(_) => 0,
+        Piece::OfBase(_) => 0,
+        Piece::Refused(k, _) => k,
     }
 }

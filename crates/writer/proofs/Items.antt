@@ -9,26 +9,18 @@ use lib.ListN.{length, drop, getD, length-append, length-map}
 use lib.Dec.{leb, lit≤}
 use borrow.Author.Tests.{leb-true, le-leb}
 use Rattle.rules.specs.Bytes.{Bytes, all, concat}
-use Rattle.rules.specs.Head.{Kind, Number, ByteString, Array, headBytes, width, shortest}
+use Rattle.rules.specs.Head.{Kind, Number, ByteString, Array, headBytes}
 use Rattle.rules.specs.Model.{Scheme, Authority, Host, address, labels, Opening, discard, discardAll, full, Span, Components, elements, limits}
 use Rattle.rules.specs.Reader.{taken}
 use Rattle.rules.specs.Encode.{textItem, arrayItem, textsItem, nullItem, orNull, tailItems, portItems, hostItems, authorityItem, discardAlone, withOpening}
 use Rattle.rules.specs.Writing.{hostTexts, schemeTexts, whereSet, openingTexts, openingLabels, counted, inside}
-use Rattle.rules.proofs.Tools.{and-left, and-right, and-both, below, length-part, concat-append}
-use Rattle.rules.proofs.Heads.{length-big}
+use Rattle.rules.proofs.Tools.{and-left, and-right, and-both, length-part, concat-append}
 use Rattle.cbor.specs.declared.Span as Code
 use Rattle.cbor.specs.Heads.{spanIs}
-use Rattle.heads.proofs.Laws.{shortest-most}
 use Rattle.rules.specs.Views.{nowhere}
 use Rattle.components.specs.Layout.{spanLaid}
 use Rattle.components.specs.Content.{spansOf}
 use Rattle.writer.specs.Items.{Lie, Few, AuthorityMay, OpeningMay, TailMay, May, stringItem, textItems, authorityItems, discardItems, openingItems, fragmentItems}
-
--- a head has at most nine bytes
-pub head-most : (k : Kind) (v : ℕ) → length (headBytes k v) ≤ 9
-unfolding headBytes width
-head-most k v =
-    omega (arith, length-big (width (shortest v)) v [], leb-true (width (shortest v)) 8 (below 28 (λ (i : ℕ). leb (width i) 8) refl (shortest v) (omega (arith, shortest-most v))))
 
 -- an item by itself
 pub one-item : (x : Bytes) → x ≡ concat (x ∷ [])

@@ -3,7 +3,7 @@ use Prim.Native.Nat.{suc}
 use mathlib.Core.Path.{ap}
 use denote.Ref.{now}
 use Rattle.rules.specs.Result.{ok, given}
-use Rattle.views.proofs.Walk.{nth-span, no-span, first-items}
+use Rattle.runs.proofs.Rows.{first-items, nth-span, no-span}
 use borrow.Author.Needs.{needs}
 use Rattle.views.proofs.path_segment.Statement.{statement}
 use Rattle.views.proofs.path_segment.Tie as tie

@@ -1,8 +1,8 @@
 -- `writer::add_head` meets its contract.
 use native.Mathlib.Omega.{arith}
 use Rattle.cbor.specs.Heads.{kindIs}
+use Rattle.heads.proofs.Laws.{head-most}
 use Rattle.writer.proofs.Laws.{added-wrote, added-over}
-use Rattle.writer.proofs.Items.{head-most}
 use borrow.Author.Needs.{needs}
 use Rattle.writer.proofs.add_head.Statement.{statement}
 use Rattle.writer.proofs.add_head.Tie as tie

@@ -1,0 +1,48 @@
+// References resolved against a base.
+use crate::{agree, compare, links, room, Call};
+use compare::resolver;
+
+extern "C" {
+    fn bench_resolve(base: *const u8, base_length: usize, reference: *const u8, reference_length: usize, room: *mut u8, size: usize) -> u64;
+}
+
+// The base and the reference.
+type Input = (Vec<u8>, Vec<u8>);
+
+fn rattle((base, reference): &Input) -> u64 {
+    let room = room();
+    unsafe { bench_resolve(base.as_ptr(), base.len(), reference.as_ptr(), reference.len(), room.as_mut_ptr(), room.len()) }
+}
+
+fn rust((base, reference): &Input) -> u64 {
+    match resolver::resolve(base, reference, room()) {
+        Ok(length) => 256 * length as u64,
+        Err(number) => number as u64,
+    }
+}
+
+// The number, and 256 times the length.
+const CALLS: [Call<Input, u64>; 2] = [("rattle", rattle), ("rust", rust)];
+
+// The answer, and the whole room.
+fn written(call: fn(&Input) -> u64, pair: &Input) -> (u64, Vec<u8>) {
+    room().fill(0xa5);
+    (call(pair), room().to_vec())
+}
+
+const WRITTEN: [Call<Input, (u64, Vec<u8>)>; 2] = [("rattle", |pair| written(rattle, pair)), ("rust", |pair| written(rust, pair))];
+
+// A base of so many bytes, and a reference that drops its last segment and appends one.
+fn sized(size: usize) -> Vec<Input> {
+    vec![(links::sized(size), b"\x82\x01\x81\x67segment".to_vec()); 64]
+}
+
+pub fn measure() {
+    const SIZES: [usize; 7] = [16, 32, 64, 128, 256, 512, 1024];
+    for pair in links::pairs(10_000).iter().chain(&SIZES.map(sized).concat()) {
+        agree(pair, &WRITTEN);
+    }
+    println!("resolve: numbers, lengths and rooms agree");
+    compare("mixed pairs", &[10_000], links::pairs, &CALLS);
+    compare("bytes of a base", &SIZES, sized, &CALLS);
+}

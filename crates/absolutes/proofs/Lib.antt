@@ -1,0 +1,2 @@
+-- The laws of absolute references that callers use.
+pub mod Openings

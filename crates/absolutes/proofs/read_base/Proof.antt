@@ -1,0 +1,49 @@
+-- `absolutes::read_base` meets its contract.
+use mathlib.Core.Path.{sym, ap, _∙_}
+use Rattle.rules.specs.Resolve.{asBase}
+use Rattle.rules.proofs.Steps.{need-yes, need-no, bind-ok, bind-refused}
+use Rattle.reader.specs.Code.{answerIs}
+use Rattle.absolutes.specs.Bases.{readBase}
+use borrow.Author.Needs.{needs}
+use Rattle.absolutes.proofs.read_base.Statement.{statement}
+use Rattle.absolutes.proofs.read_base.Tie as tie
+
+read-requires : tie.Need-read-requires
+read-requires c κs = search needs
+
+enum-known-place : tie.Need-enum-known-place
+enum-known-place c = search needs
+
+enum-known-found : tie.Need-enum-known-found
+enum-known-found c = search needs
+
+is-absolute-requires : tie.Need-is-absolute-requires
+is-absolute-requires c κs = search needs
+
+returns : tie.Need-returns
+unfolding readBase
+returns c = bind-refused _ _ _ _ (ap asBase (ap answerIs (sym (c .before .place .given .1)) ∙ c .before .before .before .read .ensures))
+
+returns-2 : tie.Need-returns-2
+unfolding readBase
+returns-2 c =
+    let m = c .before .before .before in
+    need-yes _ _ _ _ (sym (c .before .is-absolute .ensures) ∙ c .if1 .taken) ∙ bind-ok _ _ _ (ap asBase (ap answerIs (sym (m .found .given .1)) ∙ m .before .before .read .ensures))
+
+returns-3 : tie.Need-returns-3
+unfolding readBase
+returns-3 c =
+    let m = c .before .before .before in
+    need-no _ _ _ _ (sym (c .before .is-absolute .ensures) ∙ c .if1 .left) ∙ bind-ok _ _ _ (ap asBase (ap answerIs (sym (m .found .given .1)) ∙ m .before .before .read .ensures))
+
+pub read-base-spec : {M : Type 1} → statement M
+read-base-spec =
+    tie.close
+    (tie.spec
+    read-requires
+    enum-known-place
+    enum-known-found
+    is-absolute-requires
+    returns
+    returns-2
+    returns-3)

@@ -1,0 +1,2 @@
+-- The base, as the calls read it.
+pub mod Bases

@@ -1,0 +1,3 @@
+mod Items
+mod Laws
+mod Resolved

@@ -1,0 +1,113 @@
+-- `resolver::resolve` meets its contract.
+use native.Mathlib.Omega.{arith}
+use mathlib.Core.Path.{sym, ap, _∙_}
+use denote.Ref.{now}
+use lib.ListN.{length}
+use Rattle.rules.specs.Model.{limits}
+use Rattle.rules.specs.Calls.{Ruling, outcome, after}
+use Rattle.rules.proofs.Tools.{octets-of}
+use Rattle.rules.proofs.Steps.{ok-at}
+use Rattle.rules.proofs.Laid.{laid}
+use Rattle.reader.specs.Code.{answerIs}
+use Rattle.outcomes.proofs.Laws.{right-refused}
+use Rattle.resolver.proofs.Resolved.{parts-inside, parts-small, ruled-parts, base-says, base-refused, reference-refused, read-reference, read-size}
+use borrow.Author.Needs.{needs}
+use Rattle.resolver.proofs.resolve.Statement.{statement}
+use Rattle.resolver.proofs.resolve.Tie as tie
+
+read-base-requires : tie.Need-read-base-requires
+read-base-requires c κs = search needs
+
+enum-known-k : tie.Need-enum-known-k
+enum-known-k c = search needs
+
+refused-requires : tie.Need-refused-requires
+refused-requires c κs = search needs
+
+enum-known-b : tie.Need-enum-known-b
+enum-known-b c = search needs
+
+read-requires : tie.Need-read-requires
+read-requires c κs = search needs
+
+enum-known-k-2 : tie.Need-enum-known-k-2
+enum-known-k-2 c = search needs
+
+refused-requires-2 : tie.Need-refused-requires-2
+refused-requires-2 c κs = search needs
+
+enum-known-r : tie.Need-enum-known-r
+enum-known-r c = search needs
+
+parts-of-requires : tie.Need-parts-of-requires
+parts-of-requires c κs =
+    let s = c .before .before .before .before .before .before .before .before .before .before .before in
+    let base = now (s .args .base) in
+    let ref = now (s .args .reference) in
+    let d = base-says base _ (sym (c .before .before .before .before .before .before .before .read-base .ensures) ∙ ap answerIs (c .before .before .before .before .before .b .given .1)) in
+    let e = sym (c .before .before .before .read .ensures) ∙ ap answerIs (c .before .r .given .1) in (
+      (ok-at (laid limits base (octets-of base (λ i. omega (arith, c .before .before .before .before .before .before .before .before .before .before .shared-slice-known .given i)))) (d .found), ok-at (read-size base) (d .found)),
+      (ok-at (laid limits ref (octets-of ref (λ i. omega (arith, c .before .before .before .before .before .before .before .before .before .shared-slice-known2 .given i)))) e, ok-at (read-size ref) e),
+    )
+
+put-result-requires : tie.Need-put-result-requires
+put-result-requires c κs =
+    let s = c .before .before .before .before .before .before .before .before .before .before .before .before .before in
+    let base = now (s .args .base) in
+    let ref = now (s .args .reference) in
+    let d = base-says base _ (sym (c .before .before .before .before .before .before .before .before .before .read-base .ensures) ∙ ap answerIs (c .before .before .before .before .before .before .before .b .given .1)) in
+    let e = sym (c .before .before .before .before .before .read .ensures) ∙ ap answerIs (c .before .before .before .r .given .1) in
+    let a = c .before .parts-of .ensures (d .cri) (d .says) in
+    (parts-small base ref _ _ (ok-at (read-size base) (d .found)) (ok-at (read-size ref) e) a, parts-inside base ref _ _ a)
+
+returns : tie.Need-returns
+returns c =
+    let s = c .before .before .before .before .before .before .before .before in
+    let base = now (s .args .base) in
+    let ref = now (s .args .reference) in
+    let u = right-refused _ (base-refused base ref _ _ (sym (c .before .before .before .before .read-base .ensures) ∙ ap answerIs (c .before .before .k .given .1))) in
+    (c .refused .ensures ∙ u .answered, u .holds)
+
+returns-2 : tie.Need-returns-2
+returns-2 c =
+    let s = c .before .before .before .before .before .before .before .before .before .before .before .before in
+    let base = now (s .args .base) in
+    let ref = now (s .args .reference) in
+    let d = base-says base _ (sym (c .before .before .before .before .before .before .before .before .read-base .ensures) ∙ ap answerIs (c .before .before .before .before .before .before .b .given .1)) in
+    let u = right-refused _ (reference-refused base ref _ _ _ (d .absolute) (sym (c .before .before .before .before .read .ensures) ∙ ap answerIs (c .before .before .k2 .given .1))) in
+    (c .refused2 .ensures ∙ u .answered, u .holds)
+
+same-length : tie.Need-same-length
+same-length c = search needs
+
+returns-3 : tie.Need-returns-3
+returns-3 c =
+    let s = c .before .before .before .before .before .before .before .before .before .before .before .before .before .before .before .before in
+    let base = now (s .args .base) in
+    let ref = now (s .args .reference) in
+    let d = base-says base _ (sym (c .before .before .before .before .before .before .before .before .before .before .before .before .read-base .ensures) ∙ ap answerIs (c .before .before .before .before .before .before .before .before .before .before .b .given .1)) in
+    let e = sym (c .before .before .before .before .before .before .before .before .read .ensures) ∙ ap answerIs (c .before .before .before .before .before .before .r .given .1) in
+    let u = sym (ruled-parts base ref _ _ _ (d .absolute) (read-reference ref _ e) (c .before .before .before .before .parts-of .ensures (d .cri) (d .says))) in
+    let room = now (s .args .room) in (
+      c .before .before .put-result .ensures .0 ∙ ap (λ (r : Ruling). outcome r (length room)) u,
+      c .before .before .put-result .ensures .1 ∙ ap (λ (r : Ruling). after r room) u,
+    )
+
+pub resolve-spec : {M : Type 1} → statement M
+resolve-spec =
+    tie.close
+    (tie.spec
+    read-base-requires
+    enum-known-k
+    refused-requires
+    enum-known-b
+    read-requires
+    enum-known-k-2
+    refused-requires-2
+    enum-known-r
+    parts-of-requires
+    put-result-requires
+    returns
+    returns-2
+    same-length
+    returns-3)

@@ -1,0 +1,2 @@
+-- Where the items of a row stand.
+pub mod Rows

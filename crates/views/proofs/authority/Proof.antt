@@ -1,0 +1,104 @@
+-- `views::authority` meets its contract: the part lies inside.
+use native.Mathlib.Nat.{zero-add}
+use native.Mathlib.Omega.{arith}
+use mathlib.Core.Path.{_≡_, refl, sym, ap, _∙_, subst}
+use denote.Ref.{now}
+use Rattle.rules.specs.Model.{limits}
+use Rattle.rules.proofs.Tools.{octets-of, part-whole}
+use Rattle.rules.proofs.Steps.{Ok, ok-use}
+use Rattle.rules.proofs.Laid.{PieceStands, authority-inside}
+use Rattle.views.specs.declared.Piece.{Piece}
+use Rattle.views.specs.Parts.{pieceIs}
+use borrow.Author.Needs.{needs}
+use Rattle.views.proofs.authority.Statement.{statement}
+use Rattle.views.proofs.authority.Tie as tie
+use Rattle.views.proofs.authority.Reads as reads
+use Rattle.views.proofs.authority.Lts as lts
+use Rattle.views.proofs.authority_at.Reads as authority-at-reads
+
+-- the part lies inside
+inside : (c : lts.After-authority-at (authority-at-reads.Asked, authority-at-reads.Learnt) reads.Pre reads.Post) (p : Piece) → c .authority-at .result ≡ p
+    → Ok (PieceStands (now (c .before .before .before .args .reference)) (now (c .before .before .before .args .base))) (pieceIs p)
+inside c p e =
+    let k = c .before in
+    let ref = now (k .before .before .args .reference) in
+    let base = now (k .before .before .args .base) in
+    subst (Ok (PieceStands ref base)) (sym (c .authority-at .ensures) ∙ ap pieceIs e)
+    (authority-inside limits ref base (octets-of ref (λ i. omega (arith, k .before .shared-slice-known .given i))) (octets-of base (λ i. omega (arith, k .shared-slice-known2 .given i))))
+
+authority-at-requires : tie.Need-authority-at-requires
+authority-at-requires c κs = search needs
+
+enum-known-span : tie.Need-enum-known-span
+enum-known-span c = search needs
+
+add-end : tie.Need-add-end
+add-end c = omega (arith, ok-use (inside (c .before .before .before .before) _ (c .before .before .span .given .1)))
+
+sub-result : tie.Need-sub-result
+sub-result c = search needs
+
+part-result-start : tie.Need-part-result-start
+part-result-start c = search needs
+
+part-result-end : tie.Need-part-result-end
+part-result-end c = omega (arith, ok-use (inside (c .before .before .before .before) _ (c .before .before .span .given .1)))
+
+enum-known-span-2 : tie.Need-enum-known-span-2
+enum-known-span-2 c = search needs
+
+add-end-2 : tie.Need-add-end-2
+add-end-2 c = omega (arith, ok-use (inside (c .before .before .before .before) _ (c .before .before .span2 .given .1)))
+
+sub-result-2 : tie.Need-sub-result-2
+sub-result-2 c = search needs
+
+part-result-start-2 : tie.Need-part-result-start-2
+part-result-start-2 c = search needs
+
+part-result-end-2 : tie.Need-part-result-end-2
+part-result-end-2 c = omega (arith, ok-use (inside (c .before .before .before .before) _ (c .before .before .span2 .given .1)))
+
+enum-told : tie.Need-enum-told
+enum-told c = search needs
+
+slice-aggregate-result : tie.Need-slice-aggregate-result
+slice-aggregate-result c = search needs
+
+returns : tie.Need-returns
+returns c =
+    let v = c .before .before .before in
+    let a = v .before .before in
+    let span = v .span .given .0 .0 in
+    simp (sym (a .authority-at .ensures) ∙ ap pieceIs (v .span .given .1)) (refl, sym (part-whole (now (a .before .before .before .args .reference)) (span .start) (span .length)))
+
+returns-2 : tie.Need-returns-2
+returns-2 c =
+    let v = c .before .before .before in
+    let a = v .before .before in
+    let span = v .span2 .given .0 .0 in
+    simp (sym (a .authority-at .ensures) ∙ ap pieceIs (v .span2 .given .1)) (refl, sym (part-whole (now (a .before .before .before .args .base)) (span .start) (span .length)))
+
+returns-3 : tie.Need-returns-3
+returns-3 c = simp (sym (c .before .before .before .authority-at .ensures) ∙ ap pieceIs (c .before .enum-told .given .1), zero-add) (refl, refl)
+
+pub authority-spec : {M : Type 1} → statement M
+authority-spec =
+    tie.close
+    (tie.spec
+    authority-at-requires
+    enum-known-span
+    add-end
+    sub-result
+    part-result-start
+    part-result-end
+    enum-known-span-2
+    add-end-2
+    sub-result-2
+    part-result-start-2
+    part-result-end-2
+    enum-told
+    slice-aggregate-result
+    returns
+    returns-2
+    returns-3)
