@@ -1,4 +1,5 @@
 // The library's calls, as the measuring program of bench/ makes them.
+ghost use Prim.Native.Nat.{_+_, _*_, _%_};
 ghost use mathlib.Core.Path.{_≡_};
 ghost use lib.ListN.{length};
 ghost use Rattle.rules.specs.Model.{limits, elements};
@@ -39,16 +40,18 @@ pub extern "C" fn bench_rewrite(s: &[u8], room: &mut [u8]) -> usize
     done.length
 }
 
-// An answer as one number; its length is one that was written.
-fn number_and_length(done: cri::Done) -> u64 {
+// A number, and 256 times the length.
+fn told(done: cri::Done) -> u64
+    ensures { λ r. ⌜ r ≡ done .number + 256 * (done .length % 65536) ⌝ }
+{
     done.number as u64 + 256 * ((done.length % 65536) as u64)
 }
 
 // A reference resolved against a base into the room: the number, and 256 times the length written.
 #[no_mangle]
 pub extern "C" fn bench_resolve(base: &[u8], reference: &[u8], room: &mut [u8]) -> u64
+    ensures { λ r. ⌜ r ≡ outcome (resolveCall limits (now (base .entry)) (now (reference .entry))) (length (now (room .entry))) .number + 256 * (outcome (resolveCall limits (now (base .entry)) (now (reference .entry))) (length (now (room .entry))) .length % 65536) ⌝ }
     ensures { λ _. ⌜ now (room .exit) ≡ after (resolveCall limits (now (base .entry)) (now (reference .entry))) (now (room .entry)) ⌝ }
 {
-    let done = cri::resolve(base, reference, room);
-    number_and_length(done)
+    told(cri::resolve(base, reference, room))
 }

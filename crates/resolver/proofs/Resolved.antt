@@ -111,7 +111,7 @@ parts-encode base ref p c h =
 
 -- ---- its length
 
-pub both-length : (base ref : Bytes) (b : Both) → BothInside base ref b → length (bothOf base ref b) ≡ b .base .length + b .reference .length
+both-length : (base ref : Bytes) (b : Both) → BothInside base ref b → length (bothOf base ref b) ≡ b .base .length + b .reference .length
 unfolding bothOf
 both-length base ref b h =
     length-append (taken base (spanIs (b .base))) (taken ref (spanIs (b .reference)))
@@ -126,10 +126,10 @@ module _ (p : Parts) where
   pub counted : {n : ℕ} → n ≡ pathItems (p .path .count) (p .tail .count) → 2 + n + p .tail .count ≡ count
   counted e = ap (λ (n : ℕ). 2 + n + p .tail .count) e
 
-  pub count-most : PartsSmall p → count ≤ 5
+  count-most : PartsSmall p → count ≤ 5
   count-most s = omega (arith, s .further, items-most (p .path .count) (p .tail .count))
 
-  pub head-size : PartsSmall p → length (headBytes Array count) ≡ 1
+  head-size : PartsSmall p → length (headBytes Array count) ≡ 1
   head-size s = head-length Array count ∙ head-one count (omega (arith, count-most s))
 
 module _ (base ref : Bytes) (p : Parts) where
@@ -153,6 +153,24 @@ module _ (base ref : Bytes) (p : Parts) where
         both-length base ref (p .path .texts) (h .path),
         both-length base ref (p .tail .items) (h .tail),
       )
+
+  -- what the places of the pieces follow from, with an outer head for n items
+  pub record Sizes (n : ℕ) : Type 0 where
+    pub total : length (partsOf base ref p)
+        ≡ 1 + (p .front .base .length + p .front .reference .length) + length (pathHead (p .path .count) (p .tail .count))
+        + (p .path .texts .base .length + p .path .texts .reference .length) + (p .tail .items .base .length + p .tail .items .reference .length)
+    pub head : length (headBytes Array n) ≡ 1
+    pub front : length (bothOf base ref (p .front)) ≡ p .front .base .length + p .front .reference .length
+    pub path : length (bothOf base ref (p .path .texts)) ≡ p .path .texts .base .length + p .path .texts .reference .length
+
+  pub sizes : PartsSmall p × PartsInside base ref p → {n : ℕ} → n ≡ pathItems (p .path .count) (p .tail .count) → Sizes (2 + n + p .tail .count)
+  sizes h e =
+      record {
+        total = parts-length (h .0) (h .1);
+        head = ap (λ (n : ℕ). length (headBytes Array n)) (counted p e) ∙ head-size p (h .0);
+        front = both-length base ref (p .front) (h .1 .front);
+        path = both-length base ref (p .path .texts) (h .1 .path);
+      }
 
   -- ---- 5.5
 

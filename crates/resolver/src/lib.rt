@@ -31,6 +31,11 @@ use reader::OpeningAt;
 use reader::SchemeAt;
 use reader::Slot;
 
+// The largest result, and how many segments its path may have.
+const MOST: usize = 1024;
+
+const SEGMENTS: usize = 32;
+
 // A part of the base, and after it one of the reference.
 struct Both {
     base: Span,
@@ -120,7 +125,7 @@ fn tail_start(end: usize, query: Slot, fragment: Slot) -> usize
     }
 }
 
-// ---- scheme and authority
+// ---- scheme and authority. Here and below `old` is what the base has
 
 // Each of the two where the reference brings it, else the base's, whose authority stands from a position up to another.
 fn front_at(at: usize, next: usize, opening: OpeningAt) -> Both
@@ -474,11 +479,11 @@ fn put_result(base: &[u8], reference: &[u8], p: Parts, room: &mut [u8]) -> Done
     ensures { λ _. ⌜ now (room .exit) ≡ after (partsRuling (now (base .entry)) (now (reference .entry)) p) (now (room .entry)) ⌝ }
 {
     let path = p.path;
-    if 32 < path.count {
+    if SEGMENTS < path.count {
         return outcomes::refused(9);
     }
     let n = parts_length(p);
-    if 1024 < n {
+    if MOST < n {
         return outcomes::refused(9);
     }
     if room.len() < n {
