@@ -3,7 +3,7 @@ use Prim.Native.Nat.{ℕ, suc, _+_, _-_, _<_, _≤_}
 use native.Mathlib.Numerals.{towards-suc}
 use native.Mathlib.Nat.{zero-add, add-zero, add-suc, suc-add}
 use native.Mathlib.Omega.{arith}
-use mathlib.Core.Path.{_≡_, refl, sym, ap, _∙_}
+use mathlib.Core.Path.{_≡_, refl, sym, ap, _∙_, subst}
 use mathlib.Core.List.{[], _∷_, _++_, append-assoc}
 use lib.ListN.{length, set, getD, take, drop, length-append}
 use lib.Seq.{sets, sets-eq, length-sets, length-take-le, take-at, drop-at}
@@ -31,6 +31,10 @@ wrote-one = record { bytes = refl; place = refl }
 
 pub wrote-three : {l : Bytes} {i a b d : ℕ} → Wrote l i (a ∷ b ∷ d ∷ []) (set (set (set l i a) (i + 1) b) (i + 2) d) (i + 3)
 wrote-three = record { bytes = simp towards-suc; place = refl }
+
+-- the same bytes, said in another way
+pub wrote-as : {a b v w : Bytes} {i k : ℕ} → v ≡ w → Wrote a i v b k → Wrote a i w b k
+wrote-as {a} {b} {i = i} {k = k} e p = subst (λ (w : Bytes). Wrote a i w b k) e p
 
 -- the room keeps its length
 pub wrote-length : {a b w : Bytes} {i k : ℕ} → Wrote a i w b k → length b ≡ length a

@@ -1,7 +1,7 @@
 -- The items of a result.
 use Prim.Native.Nat.{ℕ, zero, suc, _+_, _≤_, _<_}
 use native.Mathlib.Omega.{arith}
-use mathlib.Core.Path.{_≡_, refl, ap, _∙_, subst}
+use mathlib.Core.Path.{_≡_, refl, ap, _∙_}
 use mathlib.Core.List.{List, [], _∷_, _++_, append-assoc, append-nil, map}
 use mathlib.Core.Option.{Option, none, some}
 use lib.ListN.{length, length-map}
@@ -10,7 +10,6 @@ use Rattle.rules.specs.Model.{setPath}
 use Rattle.rules.specs.Head.{Array, Null, headBytes, majorOf, shortest, width}
 use Rattle.rules.specs.Encode.{textItem, arrayItem, textsItem, nullItem, orNull, tailItems}
 use Rattle.rules.proofs.Laid.{texts, queryItem, fragmentItem}
-use Rattle.put.specs.Wrote.{Wrote}
 use Rattle.heads.proofs.Laws.{head-most}
 use Rattle.resolver.specs.Parts.{furtherItems, pathHead, pathItems}
 
@@ -90,9 +89,6 @@ unfolding pathHead pathItems
 head-items (suc n) k h = absurd (omega arith)
 head-items zero zero h = refl
 head-items zero (suc k) h = refl
-
-pub wrote-as : {a b v w : Bytes} {i k : ℕ} → v ≡ w → Wrote a i v b k → Wrote a i w b k
-wrote-as {a} {b} {i = i} {k = k} e p = subst (λ (w : Bytes). Wrote a i w b k) e p
 
 pub head-most-path : (n k : ℕ) → length (pathHead n k) ≤ 9
 unfolding pathHead

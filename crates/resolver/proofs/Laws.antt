@@ -17,7 +17,7 @@ use Rattle.rules.proofs.Slots.{saidTexts, saidText}
 use Rattle.rules.proofs.Authorities.{saidAuthority}
 use Rattle.rules.proofs.Openings.{saidScheme}
 use Rattle.rules.proofs.Laid.{Between, between-none, between-then, between-as, between-at, FullLaid, texts, TextsLaid, laid-items, RowLaid, PathLaid, queryItem, fragmentItem}
-use Rattle.rules.proofs.Rows.{texts-length, texts-append, normal-short, normal-long}
+use Rattle.rules.proofs.Rows.{texts-count, texts-append, normal-short, normal-long}
 use Rattle.runs.specs.Rows.{nthAt}
 use Rattle.runs.proofs.Rows.{take-contents}
 use Rattle.cbor.specs.declared.Span.{Span}
@@ -84,7 +84,7 @@ pub row-count : {bs : Bytes} {r : Row} {ts : List Bytes} → RowIs bs r ts → l
 row-count {bs} {r} p = ap length (sym (p .says)) ∙ length-contents bs (r .start) (r .count)
 
 pub row-small : {bs : Bytes} {r : Row} {ts : List Bytes} → RowIs bs r ts → length bs ≤ 1024 → Small r
-row-small {ts = ts} p h = record { bytes = omega (arith, p .bytes .inside); texts = omega (arith, p .bytes .inside, row-length p, row-count p, texts-length ts) }
+row-small {ts = ts} p h = record { bytes = omega (arith, p .bytes .inside); texts = omega (arith, p .bytes .inside, row-length p, row-count p, texts-count ts) }
 
 -- by its own texts
 pub row-self : {bs : Bytes} {r : Row} {ts : List Bytes} → RowIs bs r ts → RowIs bs r (rowTexts bs r)

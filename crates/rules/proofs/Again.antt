@@ -17,6 +17,7 @@ use Rattle.rules.specs.Promises.{unfragmented}
 use Rattle.rules.proofs.Heads.{head-some}
 use Rattle.rules.proofs.Reading.{tail-last}
 use Rattle.rules.proofs.Laid.{head-length, head-one}
+use Rattle.rules.proofs.Rows.{array-length}
 use Rattle.rules.proofs.Absolutes.{withPath}
 use Rattle.rules.proofs.Resolving.{nothing}
 use Rattle.rules.proofs.Compute.{computed}
@@ -28,8 +29,7 @@ unfolding computed
 read-nothing lim h = rw (le-leb 1 (lim .bytes) h)
 
 array-some : (xs : List Bytes) → 1 ≤ length (arrayItem xs)
-unfolding arrayItem
-array-some xs = simp length-append (omega (arith, head-some Array (length xs)))
+array-some xs = omega (arith, array-length xs)
 
 pub encode-some : (r : Reference) → 1 ≤ length (encode r)
 unfolding encode

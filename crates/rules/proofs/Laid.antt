@@ -17,7 +17,7 @@ use Rattle.rules.specs.Reader.{endAt, contents, readTexts, Slot, unset, 
 use Rattle.rules.specs.Encode.{textItem, arrayItem, textsItem, nullItem, orNull, authorityItem, schemeItem}
 use Rattle.rules.specs.Resolve.{asBase}
 use Rattle.rules.specs.Views.{Piece, ofReference, ofBase, authoritySpan, chosen, authorityView}
-use Rattle.rules.proofs.Tools.{never, or-left, take-at-drop}
+use Rattle.rules.proofs.Tools.{never, or-left}
 use Rattle.rules.proofs.Steps.{Ok, no!, ok!, ok-any, ok-both, ok-bind, ok-then, ok-map, ok-need, ok-if}
 use Rattle.rules.proofs.Heads.{is-kind, Known, Stands, ok-head, head-spells, next-inside}
 use Rattle.rules.proofs.Texts.{Items, ItemStands, contentAt, TextAt, TextsAt, ok-textBody, ok-text, ok-texts, length-contents}
@@ -54,10 +54,6 @@ between-as {bs} {i = i} {j = j} e p = subst (λ (w : Bytes). Between bs i j w) e
 -- the same positions
 pub between-at : {bs w : Bytes} {i j i′ j′ : ℕ} → i ≡ i′ → j ≡ j′ → Between bs i j w → Between bs i′ j′ w
 between-at {bs} {w} {i} {j} {i′} {j′} d e p = subst (λ (k : ℕ). Between bs k j′ w) d (subst (λ (k : ℕ). Between bs i k w) e p)
-
--- they are that part
-pub between-part : {bs w : Bytes} {i j : ℕ} → Between bs i j w → part bs i (j - i) ≡ w
-between-part {bs} {w} {i} {j} p = take-at-drop bs i (j - i) w (drop j bs) (omega (arith, p .ends)) (p .bytes)
 
 -- ---- heads
 

@@ -1,4 +1,4 @@
--- Texts in a row, as they are written.
+-- Items and texts in a row, as they are written: how long they are.
 use Prim.Native.Nat.{_+_, _≤_, _<_}
 use native.Mathlib.Omega.{arith}
 use mathlib.Core.Path.{_≡_, refl, ap, _∙_}
@@ -6,25 +6,33 @@ use mathlib.Core.List.{List, [], _∷_, _++_, map, map-append}
 use lib.ListN.{length, length-append}
 use Rattle.rules.specs.Bytes.{Bytes, concat}
 use Rattle.rules.specs.Model.{normalPath}
-use Rattle.rules.specs.Head.{Text, headBytes}
-use Rattle.rules.specs.Encode.{textItem}
+use Rattle.rules.specs.Head.{Text, Array, headBytes}
+use Rattle.rules.specs.Encode.{textItem, arrayItem}
 use Rattle.rules.proofs.Tools.{concat-append}
 use Rattle.rules.proofs.Heads.{head-some}
 use Rattle.rules.proofs.Laid.{texts, head-one}
 
-item-length : (t : Bytes) → 1 + length t ≤ length (textItem t)
+-- ---- items
+
+pub text-length : (t : Bytes) → length t + 1 ≤ length (textItem t)
 unfolding textItem
-item-length t = omega (arith, length-append (headBytes Text (length t)) t, head-some Text (length t))
+text-length t = rw (length-append (headBytes Text (length t)) t) (omega (arith, head-some Text (length t)))
+
+pub array-length : (xs : List Bytes) → length (concat xs) + 1 ≤ length (arrayItem xs)
+unfolding arrayItem
+array-length xs = rw (length-append (headBytes Array (length xs)) (concat xs)) (omega (arith, head-some Array (length xs)))
+
+-- ---- texts in a row
 
 texts-cons : (t : Bytes) (ts : List Bytes) → length (texts (t ∷ ts)) ≡ length (textItem t) + length (texts ts)
 unfolding concat
 texts-cons t ts = length-append (textItem t) (texts ts)
 
 -- each text has a byte at least
-pub texts-length : (ts : List Bytes) → length ts ≤ length (texts ts)
+pub texts-count : (ts : List Bytes) → length ts ≤ length (texts ts)
 unfolding concat
-texts-length [] = omega arith
-texts-length (t ∷ ts) = omega (arith, texts-cons t ts, item-length t, texts-length ts)
+texts-count [] = omega arith
+texts-count (t ∷ ts) = omega (arith, texts-cons t ts, text-length t, texts-count ts)
 
 empty-length : length (texts ([] ∷ [])) ≡ 1
 unfolding concat textItem
@@ -35,8 +43,8 @@ pub normal-short : (ts : List Bytes) → length (texts ts) < 2 → normalPath ts
 unfolding normalPath
 normal-short [] h = refl
 normal-short ([] ∷ []) h = refl
-normal-short ([] ∷ (u ∷ ts)) h = absurd (omega (arith, texts-length ([] ∷ u ∷ ts)))
-normal-short ((b ∷ t) ∷ ts) h = absurd (omega (arith, texts-cons (b ∷ t) ts, item-length (b ∷ t)))
+normal-short ([] ∷ (u ∷ ts)) h = absurd (omega (arith, texts-count ([] ∷ u ∷ ts)))
+normal-short ((b ∷ t) ∷ ts) h = absurd (omega (arith, texts-cons (b ∷ t) ts, text-length (b ∷ t)))
 
 pub normal-long : (ts : List Bytes) → 2 ≤ length (texts ts) → normalPath ts ≡ ts
 unfolding normalPath concat

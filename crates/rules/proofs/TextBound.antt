@@ -12,7 +12,7 @@ use Rattle.rules.specs.Bytes.{Bytes, Octets, dot, colon, slash, question
 use Rattle.rules.specs.Result.{ok}
 use Rattle.rules.specs.Model.{Scheme, number, name, Host, address, labels, Authority, full, Limits, Cri, elements}
 use Rattle.rules.specs.Rules.{schemes, schemeIn, knownScheme}
-use Rattle.rules.specs.Head.{Number, Negative, ByteString, Text, Array, headBytes}
+use Rattle.rules.specs.Head.{Number, Negative, ByteString, headBytes}
 use Rattle.rules.specs.Meaning.{readAbsolute}
 use Rattle.rules.specs.Encode.{textItem, arrayItem, textsItem, orNull, tailItems, portItems, hostItems, authorityItem, schemeItem, withOpening, encode}
 use Rattle.rules.specs.Valid.{GoodAddress, GoodHost, GoodScheme}
@@ -24,6 +24,7 @@ use Rattle.rules.proofs.Steps.{ok-at}
 use Rattle.rules.proofs.Heads.{head-some, head-two}
 use Rattle.rules.proofs.Openings.{of-schemes}
 use Rattle.rules.proofs.Reading.{canonical}
+use Rattle.rules.proofs.Rows.{text-length, array-length}
 use Rattle.rules.proofs.Absolutes.{withPath, absolute-same, ReadAs, read-as, GoodCri, good-read}
 use Rattle.rules.proofs.Escapes.{escape-length}
 use Rattle.rules.proofs.Numerals.{decimal-length, decimal-two, decimal-three}
@@ -31,16 +32,8 @@ use Rattle.rules.proofs.Addresses.{ipv6-length}
 
 -- ---- items
 
-text-length : (t : Bytes) → length t + 1 ≤ length (textItem t)
-unfolding textItem
-text-length t = rw (length-append (headBytes Text (length t)) t) (omega (arith, head-some Text (length t)))
-
 bytes-length : (t : Bytes) → length t + 1 ≤ length (headBytes ByteString (length t) ++ t)
 bytes-length t = rw (length-append (headBytes ByteString (length t)) t) (omega (arith, head-some ByteString (length t)))
-
-array-length : (xs : List Bytes) → length (concat xs) + 1 ≤ length (arrayItem xs)
-unfolding arrayItem
-array-length xs = rw (length-append (headBytes Array (length xs)) (concat xs)) (omega (arith, head-some Array (length xs)))
 
 join-length : (k : Class) (d : ℕ) (ps : List Bytes) → length (join d (map (escape k) ps)) ≤ 3 * length (concat (map textItem ps))
 unfolding join concat

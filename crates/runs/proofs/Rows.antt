@@ -4,9 +4,8 @@ use native.Mathlib.Omega.{arith}
 use mathlib.Core.Path.{_≡_, refl, ap}
 use mathlib.Core.List.{List, _∷_}
 use mathlib.Core.Option.{none, some}
-use lib.ListN.{length, take, getElem?}
+use lib.ListN.{take, getElem?}
 use Rattle.rules.specs.Bytes.{Bytes}
-use Rattle.rules.specs.Head.{headAt}
 use Rattle.rules.specs.Reader.{spanAt, endAt, spans, contents}
 use Rattle.rules.proofs.Texts.{contentAt, ItemStands, Items}
 use Rattle.runs.specs.Rows.{nthAt}
@@ -43,14 +42,3 @@ unfolding spans
 no-span bs at zero n h = refl
 no-span bs at (suc count) zero h = absurd (omega arith)
 no-span bs at (suc count) (suc n) h = no-span bs (endAt bs at) count n (omega arith)
-
--- the position after them
-pub after-inside : (bs : Bytes) (at n : ℕ) → at ≤ length bs → Items bs at n → nthAt bs at n ≤ length bs
-unfolding nthAt
-after-inside bs at zero h i = h
-after-inside bs at (suc n) h i = after-inside bs (endAt bs at) n (i .0 .inside) (i .1)
-
-pub after-onwards : (bs : Bytes) (at n : ℕ) → at ≤ nthAt bs at n
-unfolding nthAt headAt
-after-onwards bs at zero = omega arith
-after-onwards bs at (suc n) = omega (arith, after-onwards bs (endAt bs at) n)

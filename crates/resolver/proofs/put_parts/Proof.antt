@@ -3,9 +3,9 @@ use native.Mathlib.Omega.{arith}
 use mathlib.Core.Path.{ap}
 use denote.Ref.{now}
 use Rattle.rules.specs.Head.{headBytes, Array}
-use Rattle.put.proofs.Laws.{wrote-then, wrote-length}
+use Rattle.put.proofs.Laws.{wrote-then, wrote-as, wrote-length}
 use Rattle.resolver.specs.Parts.{partsOf}
-use Rattle.resolver.proofs.Items.{items-most, wrote-as}
+use Rattle.resolver.proofs.Items.{items-most}
 use Rattle.resolver.proofs.Resolved.{counted, sizes}
 use borrow.Author.Needs.{needs}
 use Rattle.resolver.proofs.put_parts.Statement.{statement}

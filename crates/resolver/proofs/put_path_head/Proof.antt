@@ -2,8 +2,8 @@
 use native.Mathlib.Omega.{arith}
 use mathlib.Core.Path.{ap}
 use lib.ListN.{length}
-use Rattle.put.proofs.Laws.{wrote-none}
-use Rattle.resolver.proofs.Items.{wrote-as, head-path, head-null, head-none}
+use Rattle.put.proofs.Laws.{wrote-as, wrote-none}
+use Rattle.resolver.proofs.Items.{head-path, head-null, head-none}
 use borrow.Author.Needs.{needs}
 use Rattle.resolver.proofs.put_path_head.Statement.{statement}
 use Rattle.resolver.proofs.put_path_head.Tie as tie
