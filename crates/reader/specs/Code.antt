@@ -32,6 +32,8 @@ use Rattle.reader.specs.declared.SchemeAt.{SchemeAt}
 use Rattle.reader.specs.declared.SchemeAt.the-variants as SchemeAtV
 use Rattle.reader.specs.declared.OpeningAt.{OpeningAt}
 use Rattle.reader.specs.declared.OpeningAt.the-variants as OpeningAtV
+use Rattle.reader.specs.declared.First.{First}
+use Rattle.reader.specs.declared.First.the-variants as FirstV
 use Rattle.reader.specs.declared.Opened.{Opened}
 use Rattle.reader.specs.declared.Opened.the-variants as OpenedV
 use Rattle.reader.specs.declared.Found.{Found}
@@ -105,6 +107,12 @@ abbrev pub openingOf : OpeningAt → R.OpeningAt
 openingOf (OpeningAtV.Discard k) = R.discardAt k
 openingOf OpeningAtV.DiscardAll = R.discardAllAt
 openingOf (OpeningAtV.Full s a) = R.fullAt (schemeOf s) (authorityOf a)
+
+-- the first of so many items at a position, and what follows: nothing more of the opening; or the authority
+abbrev pub firstIs : Bytes → ℕ → ℕ → First → Res R.Opened
+firstIs bs at count (FirstV.Discard o next) = ok (record { opening = openingOf o; next = next; left = count - 1 })
+firstIs bs at count (FirstV.Scheme s next) = R.afterScheme bs at count (schemeOf s) next
+firstIs bs at count (FirstV.Refused n) = refused n at
 
 -- the opening, the position after it, and how many items are left
 abbrev pub openedIs : Opened → Res R.Opened

@@ -1,7 +1,7 @@
 // Where everything stands in a CRI reference: one pass over any bytes, left to right, to the first fault or to the end.
 ghost use mathlib.Core.Path.{_≡_};
 ghost use mathlib.Core.Bool.{_&&_, _||_};
-ghost use Prim.Native.Nat.{ℕ, _+_, _-_, _≤_};
+ghost use Prim.Native.Nat.{ℕ, _+_, _-_, _≤_, _<_};
 ghost use lib.ListN.{length};
 ghost use lib.Dec.{eqb};
 ghost use Rattle.rules.specs.Bytes.{Bytes};
@@ -11,7 +11,7 @@ ghost use Rattle.rules.specs.Rules.{knownScheme};
 ghost use Rattle.rules.specs.Reader as R;
 ghost use Rattle.cbor.specs.Heads.{allows, accepted};
 ghost use Rattle.texts.specs.Code.{sortIs, stepIs};
-ghost use Rattle.reader.specs.Code.{headIs, runIs, slotIs, namesIs, schemeOf, authorityIs, readHost, openingOf, openedIs, foundOf, answerIs, readEnd, readRest, readItems};
+ghost use Rattle.reader.specs.Code.{headIs, runIs, slotIs, namesIs, schemeOf, authorityIs, readHost, openingOf, openedIs, firstIs, foundOf, answerIs, readEnd, readRest, readItems};
 use cbor::Item;
 use cbor::Kinds;
 use texts::Sort;
@@ -98,6 +98,13 @@ enum Names {
 enum Authority {
     Is(AuthorityAt),
     Refused(u8, usize),
+}
+
+// The first item and the position after it: a discard; or a scheme, which the authority follows. Or a refusal's number, whose place is the item's.
+enum First {
+    Discard(OpeningAt, usize),
+    Scheme(SchemeAt, usize),
+    Refused(u8),
 }
 
 // The opening, the position after it, and how many items are left.
@@ -531,52 +538,66 @@ fn lone_zero(count: usize, n: u64) -> bool
 }
 
 // A discard, the first of so many items.
-fn discard_body(at: usize, count: usize, n: u64, next: usize) -> Opened
-    requires { ⌜ 1 ≤ count ⌝ }
-    ensures { λ r. ⌜ ((bs : Bytes) → openedIs r ≡ R.openingBody bs at count (record { kind = Number; value = n; next = next }) Number) ⌝ }
+fn discard_body(count: usize, n: u64, next: usize) -> First
+    ensures { λ r. ⌜ ((bs : Bytes) (at : ℕ) → firstIs bs at count r ≡ R.openingBody bs at count (record { kind = Number; value = n; next = next }) Number) ⌝ }
 {
     if 127 < n {
-        return Opened::Refused(4, at);
+        return First::Refused(4);
     }
     if 4 < count {
-        return Opened::Refused(2, at);
+        return First::Refused(2);
     }
     if lone_zero(count, n) {
-        return Opened::Refused(2, at);
+        return First::Refused(2);
     }
-    Opened::Is(OpeningAt::Discard(n), next, count - 1)
+    First::Discard(OpeningAt::Discard(n), next)
 }
 
 // True, the first of so many items.
-fn discard_all_body(at: usize, count: usize, next: usize) -> Opened
-    requires { ⌜ 1 ≤ count ⌝ }
-    ensures { λ r. ⌜ ((bs : Bytes) → openedIs r ≡ R.openingBody bs at count (record { kind = True; value = 21; next = next }) True) ⌝ }
+fn discard_all_body(count: usize, next: usize) -> First
+    ensures { λ r. ⌜ ((bs : Bytes) (at : ℕ) → firstIs bs at count r ≡ R.openingBody bs at count (record { kind = True; value = 21; next = next }) True) ⌝ }
 {
     if 4 < count {
-        return Opened::Refused(2, at);
+        return First::Refused(2);
     }
-    Opened::Is(OpeningAt::DiscardAll, next, count - 1)
+    First::Discard(OpeningAt::DiscardAll, next)
 }
 
-// A scheme's name, whose head has been read, and the authority.
-fn name_body(s: &[u8], at: usize, count: usize, n: u64, next: usize) -> Opened
+// A scheme's name, whose head has been read.
+fn name_body(s: &[u8], n: u64, next: usize) -> First
     requires { ⌜ next ≤ length (now s) ⌝ }
-    ensures { λ r. ⌜ openedIs r ≡ R.openingBody (now (s .entry)) at count (record { kind = Text; value = n; next = next }) Text ⌝ }
+    ensures { λ r. ⌜ ((at count : ℕ) → firstIs (now (s .entry)) at count r ≡ R.openingBody (now (s .entry)) at count (record { kind = Text; value = n; next = next }) Text) ⌝ }
 {
     match texts::text_body(s, n, next, Sort::SchemeName) {
-        Step::Refused(k) => Opened::Refused(k, at),
-        Step::Next(end) => after_scheme(s, at, count, SchemeAt::Name(next, n as usize), end),
+        Step::Refused(k) => First::Refused(k),
+        Step::Next(end) => First::Scheme(SchemeAt::Name(next, n as usize), end),
     }
 }
 
-// A scheme's number, whose head has been read, and the authority.
-fn number_body(s: &[u8], at: usize, count: usize, n: u64, next: usize) -> Opened
-    ensures { λ r. ⌜ openedIs r ≡ R.openingBody (now (s .entry)) at count (record { kind = Negative; value = n; next = next }) Negative ⌝ }
+// A scheme's number, whose head has been read.
+fn number_body(n: u64, next: usize) -> First
+    ensures { λ r. ⌜ ((bs : Bytes) (at count : ℕ) → firstIs bs at count r ≡ R.openingBody bs at count (record { kind = Negative; value = n; next = next }) Negative) ⌝ }
 {
     if !known_scheme(n) {
-        return Opened::Refused(6, at);
+        return First::Refused(6);
     }
-    after_scheme(s, at, count, SchemeAt::Number(n), next)
+    First::Scheme(SchemeAt::Number(n), next)
+}
+
+// The first of so many items.
+fn first_at(s: &[u8], at: usize, count: usize) -> First
+    requires { ⌜ 0 < count ⌝ }
+    ensures { λ r. ⌜ firstIs (now (s .entry)) at count r ≡ R.readOpening (now (s .entry)) at count ⌝ }
+{
+    match cbor::item_at(s, at, may_open()) {
+        Item::Number(n, next) => discard_body(count, n, next),
+        Item::True(next) => discard_all_body(count, next),
+        Item::Negative(n, next) => number_body(n, next),
+        Item::Text(n, next) => name_body(s, n, next),
+        Item::Null(next) => First::Scheme(SchemeAt::Unset, next),
+        Item::Refused(n) => First::Refused(n),
+        _ => First::Refused(2),
+    }
 }
 
 // The opening, at the head of so many items.
@@ -586,14 +607,10 @@ fn opening_at(s: &[u8], at: usize, count: usize) -> Opened
     if count == 0 {
         return Opened::Is(OpeningAt::Discard(0), at, 0);
     }
-    match cbor::item_at(s, at, may_open()) {
-        Item::Number(n, next) => discard_body(at, count, n, next),
-        Item::True(next) => discard_all_body(at, count, next),
-        Item::Negative(n, next) => number_body(s, at, count, n, next),
-        Item::Text(n, next) => name_body(s, at, count, n, next),
-        Item::Null(next) => after_scheme(s, at, count, SchemeAt::Unset, next),
-        Item::Refused(n) => Opened::Refused(n, at),
-        _ => Opened::Refused(2, at),
+    match first_at(s, at, count) {
+        First::Discard(opening, next) => Opened::Is(opening, next, count - 1),
+        First::Scheme(scheme, next) => after_scheme(s, at, count, scheme, next),
+        First::Refused(n) => Opened::Refused(n, at),
     }
 }
 

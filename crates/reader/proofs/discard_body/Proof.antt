@@ -11,11 +11,11 @@ use Rattle.reader.proofs.discard_body.Tie as tie
 
 returns : tie.Need-returns
 unfolding openingBody
-returns c = λ bs. need-no _ _ _ _ (lt-leb (c .before .args .n) 127 (c .if1 .taken))
+returns c = λ bs at. need-no _ _ _ _ (lt-leb (c .before .args .n) 127 (c .if1 .taken))
 
 returns-2 : tie.Need-returns-2
 unfolding openingBody
-returns-2 c = λ bs.
+returns-2 c = λ bs at.
     let a = c .before .before .args in
     need-no _ _ _ _ (lt-leb (a .count) 4 (c .if2 .taken)) ∙ need-yes _ _ _ _ (le-leb (a .n) 127 (omega arith))
 
@@ -24,19 +24,16 @@ lone-zero-requires c κs = search needs
 
 returns-3 : tie.Need-returns-3
 unfolding openingBody
-returns-3 c = λ bs.
+returns-3 c = λ bs at.
     let z = c .before in
     let a = z .before .before .before .args in
     need-no _ _ _ _ (ap not (sym (z .lone-zero .ensures) ∙ c .if3 .taken))
     ∙ need-yes _ _ _ _ (le-leb (a .count) 4 (omega arith))
     ∙ need-yes _ _ _ _ (le-leb (a .n) 127 (omega arith))
 
-sub-t8 : tie.Need-sub-t8
-sub-t8 c = search needs
-
 returns-4 : tie.Need-returns-4
 unfolding openingBody
-returns-4 c = λ bs.
+returns-4 c = λ bs at.
     let z = c .before in
     let a = z .before .before .before .args in
     need-yes _ _ _ _ (ap not (sym (z .lone-zero .ensures) ∙ c .if3 .left))
@@ -44,4 +41,4 @@ returns-4 c = λ bs.
     ∙ need-yes _ _ _ _ (le-leb (a .n) 127 (omega arith))
 
 pub discard-body-spec : {M : Type 1} → statement M
-discard-body-spec = tie.close (tie.spec returns returns-2 lone-zero-requires returns-3 sub-t8 returns-4)
+discard-body-spec = tie.close (tie.spec returns returns-2 lone-zero-requires returns-3 returns-4)

@@ -17,30 +17,13 @@ enum-known-k c = search needs
 enum-known-end : tie.Need-enum-known-end
 enum-known-end c = search needs
 
-after-scheme-requires : tie.Need-after-scheme-requires
-after-scheme-requires c κs = search needs
-
 returns : tie.Need-returns
 unfolding openingBody
-returns c =
-    let t = c .before .before .before in
-    let at = t .before .before .args .at in
-    bind-refused _ _ _ _ (ap (stepIs at) (sym (c .before .k .given .1)) ∙ t .text-body .ensures Text at)
+returns c = λ at count. bind-refused _ _ _ _ (ap (stepIs at) (sym (c .before .k .given .1)) ∙ c .before .before .before .text-body .ensures Text at)
 
 returns-2 : tie.Need-returns-2
 unfolding openingBody
-returns-2 c =
-    let t = c .before .before .before .before in
-    let at = t .before .before .args .at in
-    c .after-scheme .ensures ∙ bind-ok _ _ _ (ap (stepIs at) (sym (c .before .before .end .given .1)) ∙ t .text-body .ensures Text at)
+returns-2 c = λ at count. bind-ok _ _ _ (ap (stepIs at) (sym (c .before .end .given .1)) ∙ c .before .before .before .text-body .ensures Text at)
 
 pub name-body-spec : {M : Type 1} → statement M
-name-body-spec =
-    tie.close
-    (tie.spec
-    text-body-requires
-    enum-known-k
-    enum-known-end
-    after-scheme-requires
-    returns
-    returns-2)
+name-body-spec = tie.close (tie.spec text-body-requires enum-known-k enum-known-end returns returns-2)

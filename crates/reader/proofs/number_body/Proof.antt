@@ -12,15 +12,11 @@ known-scheme-requires c κs = search needs
 
 returns : tie.Need-returns
 unfolding openingBody
-returns c = need-no _ _ _ _ (sym (c .before .known-scheme .ensures) ∙ not-true _ (c .if1 .taken))
-
-after-scheme-requires : tie.Need-after-scheme-requires
-after-scheme-requires c κs = search needs
+returns c = λ bs at count. need-no _ _ _ _ (sym (c .before .known-scheme .ensures) ∙ not-true _ (c .if1 .taken))
 
 returns-2 : tie.Need-returns-2
 unfolding openingBody
-returns-2 c = c .after-scheme .ensures ∙ need-yes _ _ _ _ (sym (c .before .before .known-scheme .ensures) ∙ not-false _ (c .before .if1 .left))
+returns-2 c = λ bs at count. need-yes _ _ _ _ (sym (c .before .known-scheme .ensures) ∙ not-false _ (c .if1 .left))
 
 pub number-body-spec : {M : Type 1} → statement M
-number-body-spec =
-    tie.close (tie.spec known-scheme-requires returns after-scheme-requires returns-2)
+number-body-spec = tie.close (tie.spec known-scheme-requires returns returns-2)

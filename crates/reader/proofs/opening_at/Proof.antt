@@ -1,11 +1,8 @@
 -- `reader::opening_at` meets its contract.
 use native.Mathlib.Omega.{arith}
-use mathlib.Core.List.{[], _∷_}
-use mathlib.Core.Path.{_∙_}
-use Rattle.rules.specs.Head.{Number, Negative, Text, True, Null, codeOf}
-use Rattle.rules.specs.Reader.{openingBody}
-use Rattle.cbor.proofs.Heads.{head-accepted}
-use Rattle.reader.proofs.Items.{item-is, no-other}
+use mathlib.Core.Path.{sym, ap, _∙_}
+use denote.Ref.{now}
+use Rattle.reader.specs.Code.{firstIs}
 use Rattle.reader.proofs.Cases as cases
 use borrow.Author.Needs.{needs}
 use Rattle.reader.proofs.opening_at.Statement.{statement}
@@ -14,111 +11,53 @@ use Rattle.reader.proofs.opening_at.Tie as tie
 returns : tie.Need-returns
 returns c = cases.opening-none _ _ _ (c .if1 .taken)
 
-may-open-requires : tie.Need-may-open-requires
-may-open-requires c κs = search needs
+first-at-requires : tie.Need-first-at-requires
+first-at-requires c κs = omega arith
 
-item-at-requires : tie.Need-item-at-requires
-item-at-requires c κs = search needs
+enum-known-opening : tie.Need-enum-known-opening
+enum-known-opening c = search needs
 
-enum-known-n : tie.Need-enum-known-n
-enum-known-n c = search needs
+sub-t13 : tie.Need-sub-t13
+sub-t13 c = search needs
 
-discard-body-requires : tie.Need-discard-body-requires
-discard-body-requires c κs = omega arith
-
-enum-known-next : tie.Need-enum-known-next
-enum-known-next c = search needs
-
-discard-all-body-requires : tie.Need-discard-all-body-requires
-discard-all-body-requires c κs = omega arith
-
-enum-known-n-2 : tie.Need-enum-known-n-2
-enum-known-n-2 c = search needs
-
-number-body-requires : tie.Need-number-body-requires
-number-body-requires c κs = search needs
-
-enum-known-n-3 : tie.Need-enum-known-n-3
-enum-known-n-3 c = search needs
-
-name-body-requires : tie.Need-name-body-requires
-name-body-requires c κs =
-    let i = c .before .before .before in
-    head-accepted (item-is _ _ _ _ (i .before .may-open .ensures) (i .item-at .ensures) (c .before .n3 .given .1)) .inside
-
-enum-known-next-2 : tie.Need-enum-known-next-2
-enum-known-next-2 c = search needs
+enum-known-scheme : tie.Need-enum-known-scheme
+enum-known-scheme c = search needs
 
 after-scheme-requires : tie.Need-after-scheme-requires
 after-scheme-requires c κs = search needs
 
-enum-known-n-4 : tie.Need-enum-known-n-4
-enum-known-n-4 c = search needs
+enum-known-n : tie.Need-enum-known-n
+enum-known-n c = search needs
 
 returns-2 : tie.Need-returns-2
 returns-2 c =
-    let i = c .before .before .before .before in
-    c .discard-body .ensures _
-    ∙ cases.opening-body _ _ _ (omega arith) Number _ _ (item-is _ _ _ _ (i .before .may-open .ensures) (i .item-at .ensures) (c .before .before .n .given .1))
+    let f = c .before .before .before in
+    let a = f .before .before .before .args in
+    ap (firstIs (now (a .s)) (a .at) (a .count)) (sym (c .before .opening .given .1)) ∙ f .first-at .ensures
 
 returns-3 : tie.Need-returns-3
 returns-3 c =
-    let i = c .before .before .before .before in
-    c .discard-all-body .ensures _
-    ∙ cases.opening-body _ _ _ (omega arith) True _ _ (item-is _ _ _ _ (i .before .may-open .ensures) (i .item-at .ensures) (c .before .before .next .given .1))
+    let f = c .before .before .before .before in
+    let a = f .before .before .before .args in
+    c .after-scheme .ensures ∙ ap (firstIs (now (a .s)) (a .at) (a .count)) (sym (c .before .before .scheme .given .1)) ∙ f .first-at .ensures
 
 returns-4 : tie.Need-returns-4
 returns-4 c =
-    let i = c .before .before .before .before in
-    c .number-body .ensures
-    ∙ cases.opening-body _ _ _ (omega arith) Negative _ _ (item-is _ _ _ _ (i .before .may-open .ensures) (i .item-at .ensures) (c .before .before .n2 .given .1))
-
-returns-5 : tie.Need-returns-5
-returns-5 c =
-    let i = c .before .before .before .before in
-    c .name-body .ensures
-    ∙ cases.opening-body _ _ _ (omega arith) Text _ _ (item-is _ _ _ _ (i .before .may-open .ensures) (i .item-at .ensures) (c .before .before .n3 .given .1))
-
-returns-6 : tie.Need-returns-6
-unfolding openingBody
-returns-6 c =
-    let i = c .before .before .before .before in
-    c .after-scheme .ensures
-    ∙ cases.opening-body _ _ _ (omega arith) Null _ _ (item-is _ _ _ _ (i .before .may-open .ensures) (i .item-at .ensures) (c .before .before .next2 .given .1))
-
-returns-7 : tie.Need-returns-7
-returns-7 c =
-    let i = c .before .before .before in
-    cases.opening-refused _ _ _ (omega arith) _ (item-is _ _ _ _ (i .before .may-open .ensures) (i .item-at .ensures) (c .before .n4 .given .1))
-
-returns-8 : tie.Need-returns-8
-unfolding codeOf
-returns-8 c =
-    let i = c .before in
-    no-other _ _ _ (i .item-at .result) (i .before .may-open .ensures) (i .item-at .ensures) (2 ∷ 4 ∷ []) (c .match .keys7) (tt, tt, tt, tt, tt, tt, tt, tt)
+    let f = c .before .before .before in
+    let a = f .before .before .before .args in
+    ap (firstIs (now (a .s)) (a .at) (a .count)) (sym (c .before .n .given .1)) ∙ f .first-at .ensures
 
 pub opening-at-spec : {M : Type 1} → statement M
 opening-at-spec =
     tie.close
     (tie.spec
     returns
-    may-open-requires
-    item-at-requires
-    enum-known-n
-    discard-body-requires
-    enum-known-next
-    discard-all-body-requires
-    enum-known-n-2
-    number-body-requires
-    enum-known-n-3
-    name-body-requires
-    enum-known-next-2
+    first-at-requires
+    enum-known-opening
+    sub-t13
+    enum-known-scheme
     after-scheme-requires
-    enum-known-n-4
+    enum-known-n
     returns-2
     returns-3
-    returns-4
-    returns-5
-    returns-6
-    returns-7
-    returns-8)
+    returns-4)
