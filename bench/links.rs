@@ -196,6 +196,46 @@ pub fn pairs(n: usize) -> Vec<(Vec<u8>, Vec<u8>)> {
         .collect()
 }
 
+// So many absolute links whose texts are mostly of characters that are escaped.
+pub fn escaped(n: usize) -> Vec<Vec<u8>> {
+    const WORDS: [&str; 8] = ["λιμάνι", "距離", "Ψαρόβαρκα", "порт", "港湾", "größe", "שרטון", "曳船 7"];
+    let mut random = Random::new();
+    let texts = |random: &mut Random, n: usize| {
+        let mut out = Vec::new();
+        head(&mut out, 4, n as u64);
+        for _ in 0..n {
+            text(&mut out, WORDS[random.below(WORDS.len())]);
+        }
+        out
+    };
+    (0..n)
+        .map(|_| {
+            let labels = 1 + random.below(2);
+            let opening = vec![vec![0x20], texts(&mut random, labels)];
+            let segments = 1 + random.below(4);
+            let path = texts(&mut random, segments);
+            let query = (random.below(10) < 3).then(|| texts(&mut random, 1));
+            joined(opening, [Some(path), query, None])
+        })
+        .collect()
+}
+
+// So many absolute links with an IPv6 address, of which four of ten groups are zero, and a short path.
+pub fn addressed(n: usize) -> Vec<Vec<u8>> {
+    let mut random = Random::new();
+    (0..n)
+        .map(|_| {
+            let mut authority = vec![0x81, 0x50];
+            for _ in 0..8 {
+                let group = if random.below(10) < 4 { 0 } else { random.next() as u16 >> (4 * random.below(4)) };
+                authority.extend(group.to_be_bytes());
+            }
+            let path = words(&mut random, 2);
+            joined(vec![vec![0x20], authority], [Some(path), None, None])
+        })
+        .collect()
+}
+
 // An absolute link of at most so many bytes, and few less: a path of segments of 7 bytes, or of 32 longer ones.
 pub fn sized(size: usize) -> Vec<u8> {
     let opening = vec![vec![0x20], vec![0x81, 0x44, 198, 51, 100, 1]];

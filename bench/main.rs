@@ -13,6 +13,7 @@ mod address;
 mod escape;
 mod items;
 mod links;
+mod print;
 mod read;
 mod resolve;
 mod utf8;
@@ -103,7 +104,7 @@ pub fn compare<I, O>(name: &str, sizes: &[usize], inputs: impl Fn(usize) -> Vec<
 fn main() {
     black_box(placement as *const ());
     let names: Vec<String> = std::env::args().skip(1).collect();
-    let parts: [(&str, fn()); 7] = [
+    let parts: [(&str, fn()); 8] = [
         ("utf8", utf8::measure),
         ("items", items::measure),
         ("escape", escape::measure),
@@ -111,6 +112,7 @@ fn main() {
         ("read", read::measure),
         ("write", write::measure),
         ("resolve", resolve::measure),
+        ("print", print::measure),
     ];
     for (name, measure) in parts {
         if names.is_empty() || names.iter().any(|n| n == name) {

@@ -7,14 +7,14 @@ extern "C" {
 }
 
 // The base and the reference.
-type Input = (Vec<u8>, Vec<u8>);
+pub type Input = (Vec<u8>, Vec<u8>);
 
-fn rattle((base, reference): &Input) -> u64 {
+pub fn rattle((base, reference): &Input) -> u64 {
     let room = room();
     unsafe { bench_resolve(base.as_ptr(), base.len(), reference.as_ptr(), reference.len(), room.as_mut_ptr(), room.len()) }
 }
 
-fn rust((base, reference): &Input) -> u64 {
+pub fn rust((base, reference): &Input) -> u64 {
     match resolver::resolve(base, reference, room()) {
         Ok(length) => 256 * length as u64,
         Err(number) => number as u64,

@@ -4,6 +4,7 @@ mod components;
 mod damage;
 mod item;
 mod pairs;
+mod printing;
 mod random;
 mod reference;
 mod words;
@@ -32,10 +33,12 @@ impl Generator {
                 let request = random.pick(&DAMAGED)(random);
                 words::damaged(random, &request)
             }
-            50..280 => components::request(random),
-            280..500 => pairs::resolve_request(random),
-            500..600 => pairs::authority_request(random),
-            600..720 => segment_request(random),
+            50..210 => printing::text_request(random),
+            210..300 => printing::same_request(random),
+            300..470 => components::request(random),
+            470..640 => pairs::resolve_request(random),
+            640..715 => pairs::authority_request(random),
+            715..805 => segment_request(random),
             _ => format!("read {}", hex(&input(random).bytes)),
         };
         line.into_bytes()
@@ -43,11 +46,13 @@ impl Generator {
 }
 
 /// The requests whose words are damaged.
-const DAMAGED: [fn(&mut Random) -> String; 4] = [
+const DAMAGED: [fn(&mut Random) -> String; 6] = [
     components::request,
     components::request,
     pairs::resolve_request,
     pairs::authority_request,
+    printing::text_request,
+    printing::same_request,
 ];
 
 fn segment_request(random: &mut Random) -> String {
@@ -111,7 +116,7 @@ fn no_request(random: &mut Random) -> String {
     let word = hex(&bytes);
     let no_word = no_bytes(random, &bytes);
     let n = random.number();
-    match random.below(40) {
+    match random.below(52) {
         0 => String::new(),
         1 => " ".to_string(),
         2 => "read".to_string(),
@@ -136,7 +141,9 @@ fn no_request(random: &mut Random) -> String {
             format!("segment {word} {no_number}")
         }
         23 => random
-            .pick(&["resolve", "resolve ", "authority", "authority "])
+            .pick(&[
+                "resolve", "resolve ", "authority", "authority ", "text", "text ", "same", "same ",
+            ])
             .to_string(),
         24 => format!("resolve {word} 80"),
         25 => format!("resolve 9 {word}"),
@@ -152,6 +159,18 @@ fn no_request(random: &mut Random) -> String {
         35 => format!("authority {word} 80 80"),
         36 => format!("authority {no_word} 80"),
         37 => format!("authority {word} {no_word}"),
+        38 => format!("text 9{word}"),
+        39 => format!("text 9 {word} "),
+        40 => format!("text 9 {word} 80"),
+        41 => format!("text 9  {word}"),
+        42 => format!("text 9 {no_word}"),
+        43 => format!("text {} {word}", 1 + MAX_ROOM as u64 + n / 2),
+        44 => format!("same {word}"),
+        45 => format!("same {word} "),
+        46 => format!("same  {word} 80"),
+        47 => format!("same {word} 80 80"),
+        48 => format!("same {no_word} 80"),
+        49 => format!("same {word} {no_word}"),
         _ if random.chance(80) => word,
         _ => {
             let length = (MAX_LINE + 1 - "read ".len()) / 2 + random.index(3);

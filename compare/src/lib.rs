@@ -5,5 +5,6 @@ pub mod generate;
 pub mod lines;
 pub mod reader;
 pub mod resolver;
+pub mod uri_text;
 pub mod views;
 pub mod writer;

@@ -4,6 +4,7 @@ mod components;
 
 use crate::reader::read;
 use crate::resolver::resolve;
+use crate::uri_text::{longest, uri_text};
 use crate::views;
 use crate::writer::{write, Components};
 pub use components::{write_from_answer, write_from_itself};
@@ -21,10 +22,12 @@ type Answer = Result<String, &'static str>;
 type Call = fn(&mut Words) -> Answer;
 
 /// The calls known here. A new call is a function and a row.
-const CALLS: [(&str, Call); 5] = [
+const CALLS: [(&str, Call); 7] = [
     ("read", read_call),
     ("write", write_call),
     ("resolve", resolve_call),
+    ("text", text_call),
+    ("same", same_call),
     ("segment", segment_call),
     ("authority", authority_call),
 ];
@@ -87,6 +90,31 @@ fn resolve_call(words: &mut Words) -> Answer {
     let base = words.bytes()?;
     let reference = words.bytes()?;
     Ok(written(room, |room| resolve(&base, &reference, room)))
+}
+
+fn text_call(words: &mut Words) -> Answer {
+    let room = words.room()?;
+    let input = words.bytes()?;
+    Ok(written(room, |room| uri_text(&input, room)))
+}
+
+fn same_call(words: &mut Words) -> Answer {
+    let first = text_of(&words.bytes()?);
+    let second = text_of(&words.bytes()?);
+    let number = |text: &Result<_, u8>| *text.as_ref().err().unwrap_or(&0);
+    let same = match first.is_ok() && first == second {
+        true => "equal",
+        false => "different",
+    };
+    Ok(format!("{} {} {same}", number(&first), number(&second)))
+}
+
+/// The URI text with room enough, or the refusal number.
+fn text_of(input: &[u8]) -> Result<Vec<u8>, u8> {
+    let mut room = vec![0; longest(input.len())];
+    let length = uri_text(input, &mut room)?;
+    room.truncate(length);
+    Ok(room)
 }
 
 fn segment_call(words: &mut Words) -> Answer {

@@ -75,6 +75,14 @@ impl<'a> Reference<'a> {
             Opening::Authority(scheme, authority) => Some((*scheme, authority)),
         }
     }
+
+    /// The segments of the path. One empty segment counts as no path, and so does an unset path.
+    pub fn segments(&self) -> &[&'a str] {
+        match self.path.as_deref() {
+            None | Some([""]) => &[],
+            Some(path) => path,
+        }
+    }
 }
 
 #[derive(Clone, Debug, PartialEq, Eq)]
@@ -95,6 +103,20 @@ pub enum Scheme<'a> {
     /// A number of `KNOWN_SCHEMES`.
     Number(u8),
     Text(&'a str),
+}
+
+impl<'a> Scheme<'a> {
+    /// The name, of a number too.
+    pub fn name(self) -> Option<&'a str> {
+        match self {
+            Scheme::None => None,
+            Scheme::Number(number) => KNOWN_SCHEMES
+                .iter()
+                .find(|&&(known, _)| known == number)
+                .map(|&(_, name)| name),
+            Scheme::Text(name) => Some(name),
+        }
+    }
 }
 
 #[derive(Clone, Debug, PartialEq, Eq)]

@@ -2,24 +2,48 @@
 
 use compare::generate::Generator;
 use compare::lines;
-use compare::reader::{read, Discard, Host, Opening, Reference, Scheme};
+use compare::reader::{read, Discard, Host, Opening, Reference, Scheme, Texts};
 use compare::resolver::resolve;
+use compare::uri_text::{longest, uri_text};
 use std::collections::BTreeMap;
+use std::sync::LazyLock;
 
-const COUNT: usize = 36_000;
+const COUNT: usize = 90_000;
 
 fn requests(seed: u64) -> impl Iterator<Item = Vec<u8>> {
     Generator::new(seed).take(COUNT)
 }
 
+/// The requests of a seed, and their answers.
+static ANSWERED: LazyLock<Vec<(Vec<u8>, String)>> = LazyLock::new(|| {
+    let answered = |request: Vec<u8>| {
+        let answer = lines::answer(&request);
+        (request, answer)
+    };
+    requests(1).map(answered).collect()
+});
+
+type Words = Vec<&'static str>;
+
+/// The words of each line that is a request of a call, and those of its answer.
+fn requests_of(call: &str) -> impl Iterator<Item = (Words, Words)> + '_ {
+    ANSWERED
+        .iter()
+        .filter(move |(request, _)| lines::call(request) == Some(call))
+        .filter(|(_, answer)| !answer.starts_with("? "))
+        .map(|(request, answer)| {
+            let request = str::from_utf8(request).expect("a request is ASCII");
+            (request.split(' ').collect(), answer.split(' ').collect())
+        })
+}
+
 /// How often each word begins the answers to the requests of each call.
 fn first_words() -> BTreeMap<&'static str, BTreeMap<String, usize>> {
     let mut words: BTreeMap<_, BTreeMap<_, _>> = BTreeMap::new();
-    for request in requests(1) {
-        let Some(call) = lines::call(&request) else {
+    for (request, answer) in ANSWERED.iter() {
+        let Some(call) = lines::call(request) else {
             continue;
         };
-        let answer = lines::answer(&request);
         let word = answer.split(' ').next().unwrap_or_default();
         let words = words.entry(call).or_default();
         *words.entry(word.to_string()).or_default() += 1;
@@ -35,7 +59,7 @@ fn a_seed_gives_the_same_requests() {
 
 #[test]
 fn a_request_is_one_line() {
-    assert!(requests(1).all(|request| !request.contains(&b'\n')));
+    assert!(ANSWERED.iter().all(|(line, _)| !line.contains(&b'\n')));
 }
 
 #[test]
@@ -50,6 +74,8 @@ fn every_number_comes_often() {
             &["0", "1", "2", "3", "4", "5", "6", "7", "8", "9", "10"],
         ),
         ("authority", &["0", "1", "2", "3", "4", "5", "6", "7", "8"]),
+        ("text", &["0", "1", "2", "3", "4", "5", "6", "7", "8", "10"]),
+        ("same", &["0", "1", "2", "3", "4", "5", "6", "7", "8"]),
     ] {
         let words = &words[call];
         let all: usize = words.values().sum();
@@ -74,24 +100,24 @@ fn writing_never_answers_1_3_or_7() {
 
 #[test]
 fn some_lines_are_no_requests() {
-    let none = requests(1)
-        .filter(|request| lines::answer(request).starts_with("? "))
+    let none = ANSWERED
+        .iter()
+        .filter(|(_, answer)| answer.starts_with("? "))
         .count();
     assert!((COUNT / 100..COUNT / 20).contains(&none), "{none}");
 }
 
 /// The accepted inputs of the read requests.
 fn accepted() -> Vec<Vec<u8>> {
-    requests(1)
-        .filter_map(|request| unhex(request.strip_prefix(b"read ")?))
+    requests_of("read")
+        .map(|(words, _)| unhex(words[1]))
         .filter(|input| read(input).is_ok())
         .collect()
 }
 
-fn unhex(word: &[u8]) -> Option<Vec<u8>> {
-    let word = std::str::from_utf8(word).ok()?;
+fn unhex(word: &str) -> Vec<u8> {
     (0..word.len() / 2)
-        .map(|i| u8::from_str_radix(word.get(2 * i..2 * i + 2)?, 16).ok())
+        .map(|i| u8::from_str_radix(&word[2 * i..2 * i + 2], 16).expect("digits"))
         .collect()
 }
 
@@ -187,33 +213,19 @@ fn every_limit_is_reached() {
     assert!(longest >= 10, "input of 1,024: {longest} times");
 }
 
-/// The words of each write request that is one, and its answer's.
-fn write_requests() -> Vec<(Vec<String>, Vec<String>)> {
-    let words = |line: &str| line.split(' ').map(str::to_string).collect();
-    requests(1)
-        .filter(|request| lines::call(request) == Some("write"))
-        .map(|request| (request.clone(), lines::answer(&request)))
-        .filter(|(_, answer)| !answer.starts_with("? "))
-        .map(|(request, answer)| {
-            let request = String::from_utf8(request).expect("a request is ASCII");
-            (words(&request), words(&answer))
-        })
-        .collect()
-}
-
 /// A property of the words of a request and of its answer.
-type WriteProperty = (&'static str, fn(&[String], &[String]) -> bool);
+type WriteProperty = (&'static str, fn(&[&str], &[&str]) -> bool);
 
-fn count(words: &[String], name: &str) -> usize {
-    words.iter().filter(|&word| word == name).count()
+fn count(words: &[&str], name: &str) -> usize {
+    words.iter().filter(|&&word| word == name).count()
 }
 
-fn has(words: &[String], part: &[&str]) -> bool {
+fn has(words: &[&str], part: &[&str]) -> bool {
     words.windows(part.len()).any(|words| words == part)
 }
 
 /// Whether the word after `name` is a number over `most`.
-fn over(words: &[String], name: &str, most: u64) -> bool {
+fn over(words: &[&str], name: &str, most: u64) -> bool {
     words.windows(2).any(|pair| {
         let number = pair[1].parse::<u64>();
         pair[0] == name && number.is_ok_and(|number| number > most)
@@ -221,19 +233,19 @@ fn over(words: &[String], name: &str, most: u64) -> bool {
 }
 
 /// Starts and lengths of the spans, and the length of the lent bytes.
-fn spans(words: &[String]) -> (Vec<(u64, u64)>, u64) {
+fn spans(words: &[&str]) -> (Vec<(u64, u64)>, u64) {
     const TEXTS: [&str; 6] = [
         "text", "address", "label", "segment", "parameter", "fragment",
     ];
-    let span = |words: &[String]| {
-        let texts = TEXTS.contains(&words[0].as_str());
+    let span = |words: &[&str]| {
+        let texts = TEXTS.contains(&words[0]);
         texts.then(|| (words[1].parse().unwrap(), words[2].parse().unwrap()))
     };
     let lent = words[2].trim_matches('-').len() as u64 / 2;
     (words.windows(3).filter_map(span).collect(), lent)
 }
 
-fn any_span(words: &[String], holds: fn(u64, u64, u64) -> bool) -> bool {
+fn any_span(words: &[&str], holds: fn(u64, u64, u64) -> bool) -> bool {
     let (spans, lent) = spans(words);
     spans
         .into_iter()
@@ -256,9 +268,7 @@ fn every_limit_of_writing_is_passed() {
         ("no parameters", |r, _| {
             count(r, "query") == 1 && count(r, "parameter") == 0
         }),
-        ("no labels", |r, _| {
-            r.last().is_some_and(|word| word == "authority")
-        }),
+        ("no labels", |r, _| r.last() == Some(&"authority")),
         ("no labels, something after", |r, _| {
             has(r, &["authority", "path"])
         }),
@@ -315,7 +325,7 @@ fn every_limit_of_writing_is_passed() {
             })
         }),
     ];
-    let requests = write_requests();
+    let requests: Vec<_> = requests_of("write").collect();
     for (name, holds) in properties {
         let often = requests
             .iter()
@@ -327,14 +337,13 @@ fn every_limit_of_writing_is_passed() {
 
 /// The words of each resolve request that is one: the room, the base and the reference.
 fn resolve_requests() -> Vec<(usize, Vec<u8>, Vec<u8>)> {
-    requests(1)
-        .filter(|request| !lines::answer(request).starts_with("? "))
-        .filter_map(|request| {
-            let mut words = request.strip_prefix(b"resolve ")?.split(|&b| b == b' ');
-            let room = std::str::from_utf8(words.next()?).ok()?.parse().ok()?;
-            Some((room, unhex(words.next()?)?, unhex(words.next()?)?))
-        })
+    requests_of("resolve")
+        .map(|(words, _)| (room(&words), unhex(words[2]), unhex(words[3])))
         .collect()
+}
+
+fn room(words: &[&str]) -> usize {
+    words[1].parse().expect("a room")
 }
 
 /// A base and a reference that are accepted, the length of the room, and what resolving with room enough gives: a length or 9.
@@ -544,4 +553,398 @@ fn some_bases_are_refused_or_not_absolute() {
     for often in [refused, discards.count(), no_schemes.count()] {
         assert!(often >= 20, "{often}");
     }
+}
+
+/// An input to print, the length of the room, and the length of the text or the number with room enough.
+struct Printed {
+    room: usize,
+    input: Vec<u8>,
+    outcome: Result<usize, u8>,
+}
+
+fn text_requests() -> Vec<Printed> {
+    requests_of("text")
+        .map(|(words, _)| {
+            let input = unhex(words[2]);
+            Printed {
+                room: room(&words),
+                outcome: uri_text(&input, &mut vec![0; longest(input.len())]),
+                input,
+            }
+        })
+        .collect()
+}
+
+fn address<'a>(reference: &Reference<'a>) -> &'a [u8] {
+    match &reference.opening {
+        Opening::Authority(_, authority) => match authority.host {
+            Host::Address(address) => address,
+            Host::Labels(_) => &[],
+        },
+        Opening::Discard(_) => &[],
+    }
+}
+
+/// The groups of an IPv6 address, or none.
+fn groups(reference: &Reference) -> Vec<u16> {
+    match address(reference) {
+        address if address.len() == 16 => address
+            .chunks(2)
+            .map(|pair| u16::from_be_bytes([pair[0], pair[1]]))
+            .collect(),
+        _ => vec![],
+    }
+}
+
+/// The lengths of the runs of zero groups, in order.
+fn runs(reference: &Reference) -> Vec<usize> {
+    groups(reference)
+        .split(|&group| group != 0)
+        .map(<[u16]>::len)
+        .filter(|&length| length > 0)
+        .collect()
+}
+
+fn scheme<'a>(reference: &Reference<'a>) -> Option<Scheme<'a>> {
+    reference.absolute().map(|(scheme, _)| scheme)
+}
+
+fn has_default_port(reference: &Reference) -> bool {
+    let default = match scheme(reference) {
+        Some(Scheme::Number(0 | 6)) => 5683,
+        Some(Scheme::Number(1 | 7)) => 5684,
+        Some(Scheme::Number(8)) => 80,
+        Some(Scheme::Number(9)) => 443,
+        _ => return false,
+    };
+    port(reference) == Some(default)
+}
+
+#[test]
+fn every_sort_of_reference_is_printed() {
+    let properties: [Property; 27] = [
+        ("scheme text", |r| {
+            matches!(scheme(r), Some(Scheme::Text(_)))
+        }),
+        ("all groups zero", |r| runs(r) == [8]),
+        ("no group zero", |r| {
+            groups(r).len() == 8 && runs(r).is_empty()
+        }),
+        ("a lone zero group", |r| runs(r) == [1]),
+        ("lone zero groups", |r| runs(r) == [1, 1, 1]),
+        ("two runs of two", |r| runs(r) == [2, 2]),
+        ("two runs of three", |r| runs(r) == [3, 3]),
+        ("a longer run after a shorter one", |r| runs(r) == [2, 3]),
+        ("a shorter run after a longer one", |r| runs(r) == [3, 2]),
+        ("a run of seven", |r| runs(r) == [7]),
+        ("a run at the start", |r| {
+            groups(r).starts_with(&[0, 0]) && runs(r) == [2]
+        }),
+        ("a run at the end", |r| {
+            groups(r).ends_with(&[0, 0]) && runs(r) == [2]
+        }),
+        ("a group with leading zeros", |r| {
+            groups(r).iter().any(|group| (1..0x1000).contains(group))
+        }),
+        ("a mapped address", |r| {
+            groups(r).starts_with(&[0, 0, 0, 0, 0, 0xFFFF])
+        }),
+        ("port 0", |r| port(r) == Some(0)),
+        ("port 9", |r| port(r) == Some(9)),
+        ("port 10", |r| port(r) == Some(10)),
+        ("port 65535", |r| port(r) == Some(65535)),
+        ("the default port", has_default_port),
+        ("path unset", |r| r.path.is_none()),
+        ("empty path", |r| r.path.as_deref() == Some(&[])),
+        ("one empty segment", |r| r.path.as_deref() == Some(&[""])),
+        ("two empty segments", |r| {
+            r.path.as_deref() == Some(&["", ""])
+        }),
+        ("32 segments", |r| {
+            r.path.as_ref().is_some_and(|path| path.len() == 32)
+        }),
+        ("one empty parameter", |r| r.query.as_deref() == Some(&[""])),
+        ("16 parameters", |r| {
+            r.query.as_ref().is_some_and(|query| query.len() == 16)
+        }),
+        ("fragment of 0", |r| r.fragment == Some("")),
+    ];
+    let requests = text_requests();
+    let printed: Vec<_> = requests
+        .iter()
+        .filter(|request| request.outcome.is_ok())
+        .map(|request| read(&request.input).expect("printed"))
+        .collect();
+    let often = |holds: &dyn Fn(&Reference) -> bool| {
+        printed.iter().filter(|reference| holds(reference)).count()
+    };
+    for (name, holds) in properties {
+        let often = often(&holds);
+        assert!(often >= 5, "{name}: {often} times of {}", printed.len());
+    }
+    for number in [0, 1, 6, 7, 8, 9] {
+        let often = often(&|r| scheme(r) == Some(Scheme::Number(number)));
+        assert!(often >= 5, "scheme {number}: {often} times");
+    }
+    for octet in [0, 9, 10, 99, 100, 255] {
+        let often = often(&|r| address(r).len() == 4 && address(r).contains(&octet));
+        assert!(often >= 5, "octet {octet}: {often} times");
+    }
+}
+
+type RoomProperty = (&'static str, fn(&Printed) -> bool);
+
+#[test]
+fn rooms_around_the_text() {
+    let properties: [RoomProperty; 10] = [
+        ("exact", |p| p.outcome == Ok(p.room)),
+        ("one short", |p| p.outcome == Ok(p.room + 1)),
+        ("one over", |p| p.room > 0 && p.outcome == Ok(p.room - 1)),
+        ("empty", |p| p.outcome.is_ok() && p.room == 0),
+        ("enough for any", |p| {
+            p.outcome.is_ok() && p.room == longest(p.input.len())
+        }),
+        ("largest", |p| p.outcome.is_ok() && p.room == 16384),
+        ("of a reference that is not absolute, empty", |p| {
+            p.outcome == Err(8) && p.room == 0
+        }),
+        ("of a refused input, empty", |p| {
+            p.outcome == Err(5) && p.room == 0
+        }),
+        ("of an input of 1,024 bytes", |p| {
+            p.outcome.is_ok() && p.input.len() == 1024
+        }),
+        ("of a text over 2,000 bytes", |p| {
+            p.outcome.is_ok_and(|length| length > 2000)
+        }),
+    ];
+    let requests = text_requests();
+    for (name, holds) in properties {
+        let often = requests.iter().filter(|request| holds(request)).count();
+        assert!(often >= 5, "{name}: {often} times of {}", requests.len());
+    }
+}
+
+#[test]
+fn every_byte_is_printed_in_every_place() {
+    let mut seen = [[false; 256]; 4];
+    let mut see = |place: usize, texts: &[&str]| {
+        for byte in texts.iter().flat_map(|text| text.bytes()) {
+            seen[place][usize::from(byte)] = true;
+        }
+    };
+    for request in text_requests() {
+        if request.outcome.is_ok() {
+            let reference = read(&request.input).expect("printed");
+            see(0, labels(&reference));
+            see(1, reference.path.as_deref().unwrap_or_default());
+            see(2, reference.query.as_deref().unwrap_or_default());
+            see(3, reference.fragment.as_slice());
+        }
+    }
+    for (place, seen) in seen.iter().enumerate() {
+        for byte in 0..=255 {
+            let utf8 = !matches!(byte, 0xC0 | 0xC1 | 0xF5..=0xFF);
+            let label = !matches!(byte, b'.' | b'A'..=b'Z');
+            let possible = utf8 && (label || place > 0);
+            assert_eq!(
+                seen[usize::from(byte)],
+                possible,
+                "{byte:02x}, place {place}"
+            );
+        }
+    }
+}
+
+/// The components that two absolute references differ in.
+fn differences(a: &Reference, b: &Reference) -> Vec<&'static str> {
+    [
+        ("scheme", scheme(a) != scheme(b)),
+        ("host", address(a) != address(b) || labels(a) != labels(b)),
+        ("port", port(a) != port(b)),
+        ("path", a.path != b.path),
+        ("query", a.query != b.query),
+        ("fragment", a.fragment != b.fragment),
+    ]
+    .into_iter()
+    .filter(|&(_, differs)| differs)
+    .map(|(name, _)| name)
+    .collect()
+}
+
+type SameProperty = (&'static str, fn(&Reference, &Reference) -> bool);
+
+fn path<'r>(reference: &'r Reference) -> Option<&'r [&'r str]> {
+    reference.path.as_deref()
+}
+
+/// The texts of a path or a query.
+fn texts<'r, const MAX: usize>(list: &'r Option<Texts<'r, MAX>>) -> &'r [&'r str] {
+    list.as_deref().unwrap_or_default()
+}
+
+/// Whether `one` is `two` with two neighbours made one text.
+fn joined(two: Option<&[&str]>, one: Option<&[&str]>, between: &str) -> bool {
+    let (Some(two), Some(one)) = (two, one) else {
+        return false;
+    };
+    two.len() == one.len() + 1 && two != one && two.join(between) == one.join(between)
+}
+
+/// The byte in place of which the second list has "%" and its digits, where that is how the two differ.
+fn escaped(first: &[&str], second: &[&str]) -> Option<u8> {
+    let (first, second) = (first.join(" "), second.join(" "));
+    first.bytes().enumerate().find_map(|(place, byte)| {
+        let [before, after] = [&first.as_bytes()[..place], &first.as_bytes()[place + 1..]];
+        let digits = format!("%{byte:02x}");
+        [digits.to_uppercase(), digits]
+            .iter()
+            .any(|digits| [before, digits.as_bytes(), after].concat() == second.as_bytes())
+            .then_some(byte)
+    })
+}
+
+#[test]
+fn every_sort_of_pair_is_compared() {
+    let properties: [SameProperty; 31] = [
+        ("nothing", |a, b| differences(a, b).is_empty()),
+        ("scheme", |a, b| differences(a, b) == ["scheme"]),
+        ("host", |a, b| differences(a, b) == ["host"]),
+        ("port", |a, b| differences(a, b) == ["port"]),
+        ("path", |a, b| differences(a, b) == ["path"]),
+        ("query", |a, b| differences(a, b) == ["query"]),
+        ("fragment", |a, b| differences(a, b) == ["fragment"]),
+        ("a number and a text", |a, b| {
+            differences(a, b) == ["scheme"]
+                && matches!(scheme(a), Some(Scheme::Number(_)))
+                && matches!(scheme(b), Some(Scheme::Text(_)))
+        }),
+        ("an address and labels", |a, b| {
+            differences(a, b) == ["host"] && address(a).len() == 16 && !labels(b).is_empty()
+        }),
+        ("4 and 16 bytes", |a, b| {
+            differences(a, b) == ["host"] && address(a).len() == 4 && address(b).len() == 16
+        }),
+        ("the default port left off", |a, b| {
+            differences(a, b) == ["port"] && port(a).is_none() && has_default_port(b)
+        }),
+        ("unset and an empty path", |a, b| {
+            differences(a, b) == ["path"] && path(a).is_none() && path(b) == Some(&[])
+        }),
+        ("unset and one empty segment", |a, b| {
+            differences(a, b) == ["path"] && path(a).is_none() && path(b) == Some(&[""])
+        }),
+        ("an empty path and one empty segment", |a, b| {
+            differences(a, b) == ["path"] && path(a) == Some(&[]) && path(b) == Some(&[""])
+        }),
+        ("one empty segment and two", |a, b| {
+            differences(a, b) == ["path"] && path(a) == Some(&[""]) && path(b) == Some(&["", ""])
+        }),
+        ("query unset and one empty parameter", |a, b| {
+            differences(a, b) == ["query"] && a.query.is_none() && b.query.as_deref() == Some(&[""])
+        }),
+        ("one empty parameter and two", |a, b| {
+            differences(a, b) == ["query"]
+                && a.query.as_deref() == Some(&[""])
+                && b.query.as_deref() == Some(&["", ""])
+        }),
+        ("fragment unset and empty", |a, b| {
+            differences(a, b) == ["fragment"] && a.fragment.is_none() && b.fragment == Some("")
+        }),
+        ("segments joined", |a, b| {
+            differences(a, b) == ["path"] && joined(path(a), path(b), "/")
+        }),
+        ("parameters joined", |a, b| {
+            differences(a, b) == ["query"] && joined(a.query.as_deref(), b.query.as_deref(), "&")
+        }),
+        ("a query in a segment", |a, b| {
+            differences(a, b) == ["path", "query"]
+                && b.query.is_none()
+                && path(b).is_some_and(|path| path.last().is_some_and(|text| text.contains('?')))
+        }),
+        ("a fragment in a parameter", |a, b| {
+            differences(a, b) == ["query", "fragment"]
+                && b.fragment.is_none()
+                && b.query
+                    .as_ref()
+                    .is_some_and(|query| query.last().is_some_and(|text| text.contains('#')))
+        }),
+        ("a port in a label", |a, b| {
+            differences(a, b) == ["host", "port"]
+                && port(b).is_none()
+                && labels(b).last().is_some_and(|label| label.contains(':'))
+        }),
+        ("a path in a label", |a, b| {
+            differences(a, b) == ["host", "path"]
+                && path(b).is_none()
+                && labels(b).last().is_some_and(|label| label.contains('/'))
+        }),
+        ("a byte of a label as digits", |a, b| {
+            differences(a, b) == ["host"] && escaped(labels(a), labels(b)).is_some()
+        }),
+        ("a byte of a segment as digits", |a, b| {
+            differences(a, b) == ["path"] && escaped(texts(&a.path), texts(&b.path)).is_some()
+        }),
+        ("a slash of a segment as digits", |a, b| {
+            differences(a, b) == ["path"] && escaped(texts(&a.path), texts(&b.path)) == Some(b'/')
+        }),
+        ("a byte of a parameter as digits", |a, b| {
+            differences(a, b) == ["query"] && escaped(texts(&a.query), texts(&b.query)).is_some()
+        }),
+        ("an ampersand of a parameter as digits", |a, b| {
+            differences(a, b) == ["query"]
+                && escaped(texts(&a.query), texts(&b.query)) == Some(b'&')
+        }),
+        ("a byte of a fragment as digits", |a, b| {
+            differences(a, b) == ["fragment"]
+                && escaped(a.fragment.as_slice(), b.fragment.as_slice()).is_some()
+        }),
+        ("all", |a, b| differences(a, b).len() == 6),
+    ];
+    let inputs = pairs_printed("0", "0");
+    let pairs: Vec<_> = inputs
+        .iter()
+        .map(|pair| pair.each_ref().map(|input| read(input).expect("printed")))
+        .collect();
+    for (name, holds) in properties {
+        let often = pairs
+            .iter()
+            .filter(|[a, b]| holds(a, b) || holds(b, a))
+            .count();
+        assert!(often >= 5, "{name}: {often} times of {}", pairs.len());
+    }
+}
+
+/// The inputs of the `same` requests that are answered with these numbers.
+fn pairs_printed(first: &str, second: &str) -> Vec<[Vec<u8>; 2]> {
+    requests_of("same")
+        .filter(|(_, answer)| answer[..2] == [first, second])
+        .map(|(words, _)| [unhex(words[1]), unhex(words[2])])
+        .collect()
+}
+
+/// Labels that would print as an address are refused, and so is a label with a dot.
+#[test]
+fn some_pairs_are_refused_by_the_rules_of_labels() {
+    let pairs = pairs_printed("0", "6");
+    let printed: Vec<_> = pairs
+        .iter()
+        .map(|[printed, _]| read(printed).expect("printed"))
+        .collect();
+    let addresses = printed.iter().filter(|r| address(r).len() == 4).count();
+    let names = printed.iter().filter(|r| labels(r).len() > 1).count();
+    assert!(addresses >= 10 && names >= 10, "{addresses}, {names}");
+}
+
+#[test]
+fn one_or_both_of_a_pair_are_refused() {
+    let numbers = ["1", "2", "3", "4", "5", "6", "7", "8"];
+    let often = |first: &str, second: &str| pairs_printed(first, second).len();
+    for number in numbers {
+        let [first, second] = [often(number, "0"), often("0", number)];
+        assert!(first >= 10 && second >= 10, "{number}: {first}, {second}");
+    }
+    let both = numbers.map(|first| numbers.map(|second| often(first, second)));
+    let both: usize = both.as_flattened().iter().sum();
+    assert!(both >= 50, "{both}");
 }

@@ -103,6 +103,51 @@ fn resolve_answers_what_it_wrote() {
 }
 
 #[test]
+fn text_answers_what_it_wrote() {
+    let cases = [
+        ("text 9 8220816168", "0 9 636f61703a2f2f682f kept"),
+        ("text 8 8220816168", "10 0 - kept"),
+        ("text 0 8220816168", "10 0 - kept"),
+        (
+            "text 00016384 8420816120f68160",
+            "0 12 636f61703a2f2f2532302f3f kept",
+        ),
+        ("text 0 -", "1 0 - kept"),
+        ("text 0 80", "8 0 - kept"),
+        ("text 99 82f6816168", "8 0 - kept"),
+        ("text 99 822081616800", "7 0 - kept"),
+    ];
+    for (request, expected) in cases {
+        assert_eq!(answer(request.as_bytes()), expected, "{request}");
+    }
+}
+
+#[test]
+fn same_answers_two_numbers_and_a_word() {
+    let cases = [
+        ("same 8220816168 8220816168", "0 0 equal"),
+        ("same 8220816168 832081616880", "0 0 equal"),
+        ("same 83208161688160 832081616880", "0 0 equal"),
+        ("same 8220816168 8221816168", "0 0 different"),
+        ("same 8220816168 822082616819163300", "0 7 different"),
+        ("same 8220816168 8220826168191633", "0 0 different"),
+        ("same 8220816168 8520816168f6f660", "0 0 different"),
+        ("same 8220816168 -", "0 1 different"),
+        ("same 80 8220816168", "8 0 different"),
+        ("same 80 80", "8 8 different"),
+        ("same - -", "1 1 different"),
+        ("same 8000 80", "7 8 different"),
+    ];
+    for (request, expected) in cases {
+        assert_eq!(answer(request.as_bytes()), expected, "{request}");
+    }
+    // The longest input that a line can hold twice is read, and refused.
+    let word = "8".repeat((MAX_LINE - "same  ".len()) / 4 * 2);
+    let request = format!("same {word} {word}");
+    assert_eq!(answer(request.as_bytes()), "4 4 different");
+}
+
+#[test]
 fn authority_answers_a_view() {
     let cases = [
         ("authority 80 8220816168", "0 816168"),
@@ -229,6 +274,32 @@ fn no_requests() {
         "resolve 9 822081616 80",
         "resolve 9 8220816168 8",
         "resolve 9 8220816168 8F",
+        "text",
+        "text ",
+        "text 9",
+        "text 9 ",
+        "text 9  80",
+        "text 9 80 ",
+        "text 9 80 80",
+        "text  80",
+        "text - 80",
+        "text 80 9",
+        "text 16385 80",
+        "text 18446744073709551616 80",
+        "text 9 8",
+        "text 9 8F",
+        "Text 9 80",
+        "same",
+        "same ",
+        "same 80",
+        "same 80 ",
+        "same  80",
+        "same 80 80 ",
+        "same 80 80 80",
+        "same 8 80",
+        "same 80 8",
+        "same 80 8F",
+        "same 9 80 80",
         "authority",
         "authority ",
         "authority 80",
@@ -261,6 +332,8 @@ fn known_calls() {
     assert_eq!(call(b"write 0 -"), Some("write"));
     assert_eq!(call(b"resolve 0 - -"), Some("resolve"));
     assert_eq!(call(b"authority - -"), Some("authority"));
+    assert_eq!(call(b"text 0 -"), Some("text"));
+    assert_eq!(call(b"same - -"), Some("same"));
     assert_eq!(call(b"reads 80"), None);
     assert_eq!(call(b""), None);
 }

@@ -1,5 +1,6 @@
 //! CBOR items and their encoding.
 
+#[derive(Clone)]
 pub enum Item {
     Number(u64),
     Negative(u64),

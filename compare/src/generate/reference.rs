@@ -519,7 +519,7 @@ fn lower_case(text: Vec<u8>) -> Vec<u8> {
 }
 
 /// A text that may be a segment: neither "." nor "..".
-fn without_dots(text: Vec<u8>) -> Vec<u8> {
+pub fn without_dots(text: Vec<u8>) -> Vec<u8> {
     match &text[..] {
         b"." | b".." => vec![b'-'; text.len()],
         _ => text,

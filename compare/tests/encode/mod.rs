@@ -18,8 +18,12 @@ pub fn head(major: u8, argument: usize) -> Vec<u8> {
     }
 }
 
+pub fn text_of(content: &[u8]) -> Vec<u8> {
+    [head(3, content.len()), content.to_vec()].concat()
+}
+
 pub fn text(length: usize) -> Vec<u8> {
-    [head(3, length), vec![b'a'; length]].concat()
+    text_of(&vec![b'a'; length])
 }
 
 pub fn array(items: &[Vec<u8>]) -> Vec<u8> {

@@ -4,7 +4,7 @@ ghost use mathlib.Core.Path.{_≡_};
 ghost use lib.ListN.{length};
 ghost use Rattle.rules.specs.Model.{limits, elements};
 ghost use Rattle.rules.specs.Writing.{readCall};
-ghost use Rattle.rules.specs.Calls.{outcome, after, resolveCall};
+ghost use Rattle.rules.specs.Calls.{outcome, after, resolveCall, textCall};
 ghost use Rattle.round_trip.specs.Again.{again};
 
 // The number of a link; its components are made too.
@@ -54,4 +54,13 @@ pub extern "C" fn bench_resolve(base: &[u8], reference: &[u8], room: &mut [u8]) 
     ensures { λ _. ⌜ now (room .exit) ≡ after (resolveCall limits (now (base .entry)) (now (reference .entry))) (now (room .entry)) ⌝ }
 {
     told(cri::resolve(base, reference, room))
+}
+
+// The URI text of a link, written into the room: the number, and 256 times the length written.
+#[no_mangle]
+pub extern "C" fn bench_text(s: &[u8], room: &mut [u8]) -> u64
+    ensures { λ r. ⌜ r ≡ outcome (textCall limits (now (s .entry))) (length (now (room .entry))) .number + 256 * (outcome (textCall limits (now (s .entry))) (length (now (room .entry))) .length % 65536) ⌝ }
+    ensures { λ _. ⌜ now (room .exit) ≡ after (textCall limits (now (s .entry))) (now (room .entry)) ⌝ }
+{
+    told(cri::uri_text(s, room))
 }

@@ -10,13 +10,13 @@
 //    5  a text that is not UTF-8
 //    6  an unknown scheme number, or a broken rule of a scheme, a label or a segment
 //    7  bytes after the array
-//    8  a base that is refused or not absolute
+//    8  a base that is refused or not absolute, or a link to be printed that is not absolute
 //    9  a resolved CRI of over 32 segments or over 1,024 bytes
 //   10  the room is shorter than the output
 //   18  a path segment that is not there
 ghost use mathlib.Core.Path.{_≡_};
 ghost use lib.ListN.{length};
-ghost use Rattle.rules.specs.Calls.{outcome, after, writeCall, resolveCall};
+ghost use Rattle.rules.specs.Calls.{outcome, after, writeCall, resolveCall, textCall};
 ghost use Rattle.rules.specs.Model.{limits};
 ghost use Rattle.rules.specs.Writing.{readCall};
 ghost use Rattle.rules.specs.Views.{segmentView, segmentShown, authorityView, pieceShown, numberOf};
@@ -61,6 +61,16 @@ pub fn resolve(base: &[u8], reference: &[u8], room: &mut [u8]) -> Done
     ensures { λ _. ⌜ now (room .exit) ≡ after (resolveCall limits (now (base .entry)) (now (reference .entry))) (now (room .entry)) ⌝ }
 {
     resolver::resolve(base, reference, room)
+}
+
+// Writes the URI text of an absolute CRI into the room: 0 and the length written. Or it refuses, with length 0, and the room is as it
+// was: the number from 1 to 7 that `read` has for s; 8 where s is not absolute; 10 where the room is shorter than the text. For s of n
+// bytes a room of 3n + 13 is long enough.
+pub fn uri_text(s: &[u8], room: &mut [u8]) -> Done
+    ensures { λ r. ⌜ doneIs r ≡ outcome (textCall limits (now (s .entry))) (length (now (room .entry))) ⌝ }
+    ensures { λ _. ⌜ now (room .exit) ≡ after (textCall limits (now (s .entry))) (now (room .entry)) ⌝ }
+{
+    uri::uri_text(s, room)
 }
 
 // The n-th path segment of a reference, from 0: the part of s that holds its bytes. Where `segment_number` is not 0, the empty

@@ -1,4 +1,4 @@
-// The requests. A new one is a function here and a line of `answer`; with a room, also a line of `lend`.
+// The requests. A new one is a function here, a name in `request_of` and a line of `answer`, or of `lend` where it has a room.
 ghost use Prim.Native.Nat.{_≤_};
 use crate::components_words::put_components;
 use crate::output::Output;
@@ -17,6 +17,7 @@ use request_words::is_fault;
 use request_words::take_bytes;
 use request_words::take_components;
 use request_words::take_number;
+use sameness::Verdict;
 
 // Why a line is no request.
 fn put_fault(out: &mut Output, used: usize, fault: Fault) -> usize
@@ -46,6 +47,20 @@ fn put_view(out: &mut Output, used: usize, number: u8, view: &[u8]) -> usize
     let space = put_number(out, used, number as u64);
     let bytes = put_byte(out, space, b' ');
     put_bytes(out, bytes, view)
+}
+
+// The answer of a comparison: both numbers, and whether the texts are equal.
+fn put_verdict(out: &mut Output, used: usize, verdict: Verdict) -> usize
+    requires { ⌜ used ≤ 65536 ⌝ }
+    ensures { λ r. ⌜ r ≤ 65536 ⌝ }
+{
+    let space = put_number(out, used, verdict.first as u64);
+    let second = put_byte(out, space, b' ');
+    let at = put_number(out, second, verdict.second as u64);
+    if verdict.equal {
+        return put_text(out, at, b" equal");
+    }
+    put_text(out, at, b" different")
 }
 
 // read HEX
@@ -118,6 +133,26 @@ fn authority(out: &mut Output, used: usize, line: &[u8], c: Cursor) -> usize
     )
 }
 
+// same HEX HEX
+fn same(out: &mut Output, used: usize, line: &[u8], c: Cursor) -> usize
+    requires { ⌜ used ≤ 65536 ⌝ }
+    ensures { λ r. ⌜ r ≤ 65536 ⌝ }
+{
+    let mut first = [0u8; 32768];
+    let mut second = [0u8; 32768];
+    let one = take_bytes(&mut first, line, c);
+    let after = one.rest;
+    let other = take_bytes(&mut second, line, after);
+    let rest = other.rest;
+    let fault = finish(line, rest);
+    if is_fault(fault) {
+        return put_fault(out, used, fault);
+    }
+    let n = one.length;
+    let m = other.length;
+    put_verdict(out, used, sameness::judge(&first[..n], &second[..m]))
+}
+
 // write ROOM LENT WORD.., from the words of the components on
 fn write(
     out: &mut Output,
@@ -165,10 +200,31 @@ fn resolve(
     put_done(out, used, room, done)
 }
 
+// text ROOM HEX, from the end on
+fn text(
+    out: &mut Output,
+    used: usize,
+    room: &mut [u8],
+    input: &[u8],
+    line: &[u8],
+    c: Cursor,
+) -> usize
+    requires { ⌜ used ≤ 65536 ⌝ }
+    ensures { λ r. ⌜ r ≤ 65536 ⌝ }
+{
+    let fault = finish(line, c);
+    if is_fault(fault) {
+        return put_fault(out, used, fault);
+    }
+    let done = cri::uri_text(input, room);
+    put_done(out, used, room, done)
+}
+
 // The calls that are lent a room.
 enum Call {
     Write,
     Resolve,
+    Text,
 }
 
 // The words ROOM and HEX, and what the call answers from there on.
@@ -188,37 +244,73 @@ fn lend(out: &mut Output, used: usize, line: &[u8], c: Cursor, call: Call) -> us
     match call {
         Call::Write => write(out, used, &mut room[..k], &lent[..n], line, third),
         Call::Resolve => resolve(out, used, &mut room[..k], &lent[..n], line, third),
+        Call::Text => text(out, used, &mut room[..k], &lent[..n], line, third),
     }
 }
 
-// The answer to a line, by its first word.
+// What a line asks for.
+enum Request {
+    Read,
+    Segment,
+    Authority,
+    Same,
+    Lent(Call),
+    Unknown,
+}
+
+// What a line asks for, by its first word.
+fn request_of(name: &[u8]) -> Request {
+    if check::same(name, b"read") {
+        return Request::Read;
+    }
+    if check::same(name, b"segment") {
+        return Request::Segment;
+    }
+    if check::same(name, b"authority") {
+        return Request::Authority;
+    }
+    if check::same(name, b"same") {
+        return Request::Same;
+    }
+    if check::same(name, b"write") {
+        return Request::Lent(Call::Write);
+    }
+    if check::same(name, b"resolve") {
+        return Request::Lent(Call::Resolve);
+    }
+    if check::same(name, b"text") {
+        return Request::Lent(Call::Text);
+    }
+    Request::Unknown
+}
+
+// The answer to a line whose first word is no request.
+fn put_unknown(out: &mut Output, used: usize, line: &[u8]) -> usize
+    requires { ⌜ used ≤ 65536 ⌝ }
+    ensures { λ r. ⌜ r ≤ 65536 ⌝ }
+{
+    if line.len() == 0 {
+        return put_text(out, used, b"? an empty line");
+    }
+    put_text(out, used, b"? unknown request")
+}
+
+// The answer to a line.
 pub fn answer(out: &mut Output, used: usize, line: &[u8]) -> usize
     requires { ⌜ used ≤ 65536 ⌝ }
     ensures { λ r. ⌜ r ≤ 65536 ⌝ }
 {
     let end = find(line, 0, b' ');
-    let name = &line[0..end];
     let c = Cursor {
         at: end,
         fault: Fault::None,
     };
-    if check::same(name, b"read") {
-        return read(out, used, line, c);
+    match request_of(&line[0..end]) {
+        Request::Read => read(out, used, line, c),
+        Request::Segment => segment(out, used, line, c),
+        Request::Authority => authority(out, used, line, c),
+        Request::Same => same(out, used, line, c),
+        Request::Lent(call) => lend(out, used, line, c, call),
+        Request::Unknown => put_unknown(out, used, line),
     }
-    if check::same(name, b"segment") {
-        return segment(out, used, line, c);
-    }
-    if check::same(name, b"write") {
-        return lend(out, used, line, c, Call::Write);
-    }
-    if check::same(name, b"resolve") {
-        return lend(out, used, line, c, Call::Resolve);
-    }
-    if check::same(name, b"authority") {
-        return authority(out, used, line, c);
-    }
-    if line.len() == 0 {
-        return put_text(out, used, b"? an empty line");
-    }
-    put_text(out, used, b"? unknown request")
 }

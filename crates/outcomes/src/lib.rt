@@ -1,7 +1,7 @@
 // What a call that writes into a lent room answers, whatever it writes.
 ghost use mathlib.Core.Path.{_≡_};
 ghost use lib.ListN.{length};
-ghost use Rattle.rules.specs.Calls.{refuse, write, outcome, after};
+ghost use Rattle.rules.specs.Calls.{write, outcome, after};
 ghost use Rattle.outcomes.specs.Answer.{doneIs};
 use put::put_bytes;
 

@@ -8,7 +8,7 @@ use mathlib.Core.Option.{Option, none, some, Option·getD}
 use lib.ListN.{length, take, length-append}
 use lib.Seq.{take-length}
 use lib.Dec.{leb}
-use borrow.Author.Tests.{leb-true, le-leb, lt-leb}
+use borrow.Author.Tests.{le-leb, lt-leb}
 use Rattle.rules.specs.Bytes.{Bytes, concat}
 use Rattle.rules.specs.Result.{Res, refused, ok, need, given, _>>=_, _>>_, BASE, RESULT}
 use Rattle.rules.specs.Model.{Scheme, Authority, full, Reference, limits, Cri, elements, absolute, reference, setPath, normalPath, normal}
@@ -19,7 +19,7 @@ use Rattle.rules.specs.Encode.{arrayItem, orNull, schemeItem, authorityItem, ta
 use Rattle.rules.specs.Resolve.{start, discarded, appended, or, unlessSet, openingScheme, openingAuthority, copied, resolve, asBase, fits, resolved}
 use Rattle.rules.specs.Calls.{refuse, write, ruling, resolveCall}
 use Rattle.rules.proofs.Tools.{by-test, length-part}
-use Rattle.rules.proofs.Steps.{Ok, ok-any, ok-at, ok-map, ok-need, refused-ok}
+use Rattle.rules.proofs.Steps.{ok-at, refused-ok}
 use Rattle.rules.proofs.Slots.{saidTexts, saidText}
 use Rattle.rules.proofs.Openings.{saidOpening}
 use Rattle.rules.proofs.Reading.{said, meaning-said}
@@ -264,8 +264,3 @@ reference-refused base ref b n k d e = rw (d, e)
 pub read-reference : (ref : Bytes) (f : Found) → read limits ref ≡ ok f → readReference limits ref ≡ ok (meaning ref f)
 unfolding readReference _>>=_
 read-reference ref f e = rw e
-
--- an accepted input is not too long
-pub read-size : (bs : Bytes) → Ok (λ f. length bs ≤ limits .bytes) (read limits bs)
-unfolding read
-read-size bs = ok-need _ _ _ _ (λ s. ok-map (ok-any _) (λ f _. leb-true _ _ s))

@@ -2,6 +2,7 @@ pub mod Tools
 pub mod Steps
 pub mod Heads
 pub mod Texts
+pub mod Walk
 pub mod Slots
 pub mod Authorities
 pub mod Openings

@@ -9,22 +9,22 @@ use lib.Seq.{take-at}
 use borrow.Author.Tests.{le-ltb}
 use Rattle.rules.specs.Bytes.{Bytes, hex}
 use Rattle.rules.specs.Result.{ok, need, _>>_}
-use Rattle.rules.specs.Model.{Limits, Cri, reference, normal}
-use Rattle.rules.specs.Meaning.{readReference, readAbsolute}
+use Rattle.rules.specs.Model.{Cri, reference, normal}
+use Rattle.rules.specs.Meaning.{readReference}
 use Rattle.rules.specs.Encode.{encode}
 use Rattle.rules.specs.Valid.{Valid}
 use Rattle.rules.specs.Resolve.{resolve}
 use Rattle.rules.specs.Text.{uriText}
-use Rattle.rules.specs.Calls.{Ruling, write, ruling, Done, outcome, after, printed, textCall, resolveCall}
+use Rattle.rules.specs.Calls.{Ruling, write, Done, outcome, after, textCall, resolveCall}
 use Rattle.rules.specs.Cases.{starred, unstarred, slips, refusals, requests, addresses}
 use Rattle.rules.specs.Promises as P
 use Rattle.rules.specs.Promises.{done, shown, Writes, unfragmented}
-use Rattle.rules.proofs.Steps.{ok-at, bind-ok}
+use Rattle.rules.proofs.Steps.{ok-at}
 use Rattle.rules.proofs.Reading.{canonical, complete, prefix-refused, prefix-accepted}
 use Rattle.rules.proofs.Numbers.{numbers}
 use Rattle.rules.proofs.RoundTrips.{read-write, write-read}
 use Rattle.rules.proofs.Encoding.{encode-octets}
-use Rattle.rules.proofs.Absolutes.{withPath, absolute-same, read-as, GoodCri, good-read, fits-valid, valid-fits, fits-read}
+use Rattle.rules.proofs.Absolutes.{withPath, absolute-same, read-as, text-ruled, GoodCri, good-read, fits-valid, valid-fits, fits-read}
 use Rattle.rules.proofs.TextBack.{text-same}
 use Rattle.rules.proofs.TextBound.{read-bound}
 use Rattle.rules.proofs.Resolving.{nothing, resolve-nothing, resolve-empty, resolve-again, resolve-absolute, good-resolve, resolved-is, resolve-writes}
@@ -72,14 +72,10 @@ write-read-proved = write-read
 
 -- ---- the URI text call on an accepted absolute input
 
-text-ruling : (lim : Limits) (bs : Bytes) (c : Cri) → readAbsolute lim bs ≡ ok c → textCall lim bs ≡ write (uriText c)
-unfolding textCall printed
-text-ruling lim bs c e = ap ruling (sym (bind-ok (readAbsolute lim bs) (λ c. ok (uriText c)) c (sym e)))
-
 pub demand3-proved : P.Demand3
 demand3-proved lim a b c d ha hb ea eb x y hx hy =
-    let u = text-ruling lim a c ea in
-    let v = text-ruling lim b d eb in
+    let u = text-ruled lim a (ok c) ea in
+    let v = text-ruled lim b (ok d) eb in
     let m = enough (textCall lim a) (uriText c) (length x) u hx in
     let n = enough (textCall lim b) (uriText d) (length y) v hy in
     let s = shown-enough (textCall lim a) (uriText c) x u hx in
@@ -99,7 +95,7 @@ demand3-proved lim a b c d ha hb ea eb x y hx hy =
 pub bound-proved : P.Bound
 bound-proved lim bs c h e =
     let l : length (uriText c) ≤ 3 * length bs + 13 = read-bound lim bs c h e in
-    (l, λ n k. enough (textCall lim bs) (uriText c) n (text-ruling lim bs c e) (omega arith))
+    (l, λ n k. enough (textCall lim bs) (uriText c) n (text-ruled lim bs (ok c) e) (omega arith))
 
 -- ---- resolving
 

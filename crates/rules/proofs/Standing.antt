@@ -1,4 +1,4 @@
--- What an accepted input says of positions: every text and address lies inside the bytes, and each count is within its limit.
+-- What an accepted input says of positions: it is not too long, every text and address lies inside the bytes, and each count is within its limit.
 use Prim.Native.Nat.{ℕ, zero, suc, _+_, _-_, _≤_}
 use native.Mathlib.Omega.{arith}
 use mathlib.Core.Path.{_≡_, refl, subst}
@@ -7,7 +7,7 @@ use mathlib.Core.List.{List, [], _∷_, _++_}
 use mathlib.Core.Option.{some}
 use lib.ListN.{length, getElem?}
 use lib.Dec.{lit≤}
-use borrow.Author.Tests.{le-leb}
+use borrow.Author.Tests.{leb-true, le-leb}
 use Rattle.rules.specs.Bytes.{Bytes, Octets, all}
 use Rattle.rules.specs.Model.{Span, Limits, elements}
 use Rattle.rules.specs.Head.{Kind, Number, Negative, ByteString, Text, Array, True, Null, Other, headAt, kindAt}
@@ -17,10 +17,15 @@ use Rattle.rules.specs.Meaning.{span, schemeSpan, hostSpans, openingSpan
 use Rattle.rules.specs.Writing.{labelsOf, hostTexts, schemeTexts, whereSet, openingTexts, openingLabels, allTexts, counted, inside}
 use Rattle.rules.specs.Views.{segmentView}
 use Rattle.rules.proofs.Tools.{and-left, and-right, and-both, or-left, within-high}
-use Rattle.rules.proofs.Steps.{none-some, Ok, no!, ok!, ok-bind, ok-need, ok-if, ok-given}
+use Rattle.rules.proofs.Steps.{none-some, Ok, no!, ok!, ok-any, ok-bind, ok-map, ok-need, ok-if, ok-given}
 use Rattle.rules.proofs.Heads.{is-kind, Stands, ok-head}
 use Rattle.rules.proofs.Texts.{Items, ok-content, ok-textBody, ok-texts, length-spans}
 use Rattle.rules.proofs.Authorities.{ok-labelBody, ok-names, labels-run, ok-port}
+
+-- it is not too long
+pub read-size : (lim : Limits) (bs : Bytes) → Ok (λ f. length bs ≤ lim .bytes) (read lim bs)
+unfolding read
+read-size lim bs = ok-need _ _ _ _ (λ s. ok-map (ok-any _) (λ f _. leb-true _ _ s))
 
 -- at most so many items, one after the other
 pub record ItemsStand (most : ℕ) (bs : Bytes) (at n : ℕ) : Type 0 where

@@ -16,8 +16,8 @@ use Rattle.rules.specs.Reader.{readContent, textBody, contents}
 use Rattle.rules.proofs.Tools.{by-test, length-part, part-cons}
 use Rattle.rules.proofs.Steps.{need-yes, need-no, bind-ok, bind-refused}
 use Rattle.rules.proofs.Texts.{length-contents}
+use Rattle.rules.proofs.Walk.{First}
 use Rattle.texts.specs.Code.{dotted}
-use Rattle.texts.proofs.Walk.{First}
 
 -- ---- the table of schemes
 

@@ -1,7 +1,7 @@
--- Steps of a walk over the bytes of a part, and over items that were accepted.
-use Prim.Native.Nat.{ℕ, zero, suc, _+_, _-_, _≤_, _<_}
+-- Steps of a walk over the bytes of a part.
+use Prim.Native.Nat.{ℕ, suc, _+_, _-_, _≤_, _<_}
 use native.Mathlib.Omega.{arith}
-use mathlib.Core.Path.{_≡_, refl, sym, ap, ap₂, _∙_, subst}
+use mathlib.Core.Path.{_≡_, refl, sym, ap, ap₂, _∙_}
 use mathlib.Core.Bool.{Bool, true, false, _&&_}
 use mathlib.Core.List.{[], _∷_}
 use lib.ListN.{length, getD, drop, drop-of-length-le}
@@ -9,11 +9,7 @@ use lib.Seq.{drop-cons}
 use lib.Dec.{eqb}
 use borrow.Author.Tests.{eq-eqb, ne-eqb}
 use Rattle.rules.specs.Bytes.{Bytes, part, all, same}
-use Rattle.rules.specs.Model.{Span}
-use Rattle.rules.specs.Head.{headAt}
-use Rattle.rules.specs.Reader.{spanAt, endAt, spans, contents}
 use Rattle.rules.proofs.Tools.{by-test, length-part, part-none, part-cons, part-whole, part-step, part-end}
-use Rattle.rules.proofs.Texts.{contentAt, ItemStands, Items}
 
 -- ---- a test of each byte
 
@@ -75,38 +71,3 @@ module _ (s : Bytes) (from n : ℕ) (t : Bytes) where
 
     pub compared-all : n ≤ i → true ≡ same (part s from n) t
     compared-all h = sym (c .2 ∙ ap₂ same (part-none s (from + i) (n - i) (omega arith)) (drop-of-length-le t {i = i} (omega arith)))
-
--- ---- items that were accepted
-
--- the first of the items that are left, its content n bytes from `start` on, and then the others
-pub record First (bs : Bytes) (here left start n : ℕ) : Type 0 where
-  pub after : here < start
-  pub inside : start + n ≤ length bs
-  pub content : contents bs here left ≡ part bs start n ∷ contents bs (start + n) (left - 1)
-  pub others : Items bs (start + n) (left - 1)
-
-pub first-stands : (bs : Bytes) (here left : ℕ) → 0 < left → Items bs here left → ItemStands bs here
-first-stands bs here zero h i = absurd (omega arith)
-first-stands bs here (suc left) h i = i .0
-
-pub first : (bs : Bytes) (here left start n : ℕ) → 0 < left → Items bs here left → record { start = start; length = n } ≡ spanAt bs here → First bs here left start n
-unfolding headAt contents spans
-first bs here zero start n h i e = absurd (omega arith)
-first bs here (suc left) start n h i e = subst (λ (x : Span). First bs here (suc left) (x .start) (x .length)) (sym e) whole
-  where
-    less : left ≡ suc left - 1
-    less = omega arith
-
-    whole : First bs here (suc left) (headAt bs here .next) (headAt bs here .value)
-    whole =
-        record {
-          after = omega arith;
-          inside = i .0 .inside;
-          content = ap (λ (k : ℕ). contentAt bs here ∷ contents bs (endAt bs here) k) less;
-          others = subst (λ (k : ℕ). Items bs (endAt bs here) k) less (i .1);
-        }
-
-pub none-left : (bs : Bytes) (here left : ℕ) → left ≤ 0 → contents bs here left ≡ []
-unfolding contents spans
-none-left bs here zero h = refl
-none-left bs here (suc left) h = absurd (omega arith)

@@ -26,8 +26,21 @@ pub enum Step {
     Refused(u8),
 }
 
+// The names of the schemes that have a number. A scheme's text is compared with them, and they are what a number prints as.
+pub const COAP: [u8; 4] = *b"coap";
+
+pub const COAPS: [u8; 5] = *b"coaps";
+
+pub const COAP_TCP: [u8; 8] = *b"coap+tcp";
+
+pub const COAPS_TCP: [u8; 9] = *b"coaps+tcp";
+
+pub const COAP_WS: [u8; 7] = *b"coap+ws";
+
+pub const COAPS_WS: [u8; 8] = *b"coaps+ws";
+
 // Whether n bytes from a position on are these.
-fn same_at(s: &[u8], from: usize, n: usize, t: &[u8]) -> bool
+pub fn same_at(s: &[u8], from: usize, n: usize, t: &[u8]) -> bool
     requires { ⌜ from + n ≤ length (now s) ⌝ }
     ensures { λ r. ⌜ r ≡ same (part (now (s .entry)) from n) (now (t .entry)) ⌝ }
 {
@@ -49,22 +62,22 @@ fn known_name(s: &[u8], from: usize, n: usize) -> bool
     requires { ⌜ from + n ≤ length (now s) ⌝ }
     ensures { λ r. ⌜ r ≡ knownName (part (now (s .entry)) from n) ⌝ }
 {
-    if same_at(s, from, n, b"coap") {
+    if same_at(s, from, n, &COAP) {
         return true;
     }
-    if same_at(s, from, n, b"coaps") {
+    if same_at(s, from, n, &COAPS) {
         return true;
     }
-    if same_at(s, from, n, b"coap+tcp") {
+    if same_at(s, from, n, &COAP_TCP) {
         return true;
     }
-    if same_at(s, from, n, b"coaps+tcp") {
+    if same_at(s, from, n, &COAPS_TCP) {
         return true;
     }
-    if same_at(s, from, n, b"coap+ws") {
+    if same_at(s, from, n, &COAP_WS) {
         return true;
     }
-    same_at(s, from, n, b"coaps+ws")
+    same_at(s, from, n, &COAPS_WS)
 }
 
 // A lower-case letter, a digit, "+", "." or "-".

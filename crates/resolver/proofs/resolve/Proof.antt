@@ -7,10 +7,11 @@ use Rattle.rules.specs.Model.{limits}
 use Rattle.rules.specs.Calls.{Ruling, outcome, after}
 use Rattle.rules.proofs.Tools.{octets-of}
 use Rattle.rules.proofs.Steps.{ok-at}
+use Rattle.rules.proofs.Standing.{read-size}
 use Rattle.rules.proofs.Laid.{laid}
 use Rattle.reader.specs.Code.{answerIs}
 use Rattle.outcomes.proofs.Laws.{right-refused}
-use Rattle.resolver.proofs.Resolved.{parts-inside, parts-small, ruled-parts, base-says, base-refused, reference-refused, read-reference, read-size}
+use Rattle.resolver.proofs.Resolved.{parts-inside, parts-small, ruled-parts, base-says, base-refused, reference-refused, read-reference}
 use borrow.Author.Needs.{needs}
 use Rattle.resolver.proofs.resolve.Statement.{statement}
 use Rattle.resolver.proofs.resolve.Tie as tie
@@ -46,8 +47,8 @@ parts-of-requires c κs =
     let ref = now (s .args .reference) in
     let d = base-says base _ (sym (c .before .before .before .before .before .before .before .read-base .ensures) ∙ ap answerIs (c .before .before .before .before .before .b .given .1)) in
     let e = sym (c .before .before .before .read .ensures) ∙ ap answerIs (c .before .r .given .1) in (
-      (ok-at (laid limits base (octets-of base (λ i. omega (arith, c .before .before .before .before .before .before .before .before .before .before .shared-slice-known .given i)))) (d .found), ok-at (read-size base) (d .found)),
-      (ok-at (laid limits ref (octets-of ref (λ i. omega (arith, c .before .before .before .before .before .before .before .before .before .shared-slice-known2 .given i)))) e, ok-at (read-size ref) e),
+      (ok-at (laid limits base (octets-of base (λ i. omega (arith, c .before .before .before .before .before .before .before .before .before .before .shared-slice-known .given i)))) (d .found), ok-at (read-size limits base) (d .found)),
+      (ok-at (laid limits ref (octets-of ref (λ i. omega (arith, c .before .before .before .before .before .before .before .before .before .shared-slice-known2 .given i)))) e, ok-at (read-size limits ref) e),
     )
 
 put-result-requires : tie.Need-put-result-requires
@@ -58,7 +59,7 @@ put-result-requires c κs =
     let d = base-says base _ (sym (c .before .before .before .before .before .before .before .before .before .read-base .ensures) ∙ ap answerIs (c .before .before .before .before .before .before .before .b .given .1)) in
     let e = sym (c .before .before .before .before .before .read .ensures) ∙ ap answerIs (c .before .before .before .r .given .1) in
     let a = c .before .parts-of .ensures (d .cri) (d .says) in
-    (parts-small base ref _ _ (ok-at (read-size base) (d .found)) (ok-at (read-size ref) e) a, parts-inside base ref _ _ a)
+    (parts-small base ref _ _ (ok-at (read-size limits base) (d .found)) (ok-at (read-size limits ref) e) a, parts-inside base ref _ _ a)
 
 returns : tie.Need-returns
 returns c =

@@ -6,8 +6,8 @@ use lib.ListN.{length}
 use denote.Ref.{now}
 use Rattle.rules.specs.Reader.{contents}
 use Rattle.rules.proofs.Texts.{Items}
+use Rattle.rules.proofs.Walk.{First, first, first-stands, none-left}
 use Rattle.texts.specs.Code.{dotted}
-use Rattle.texts.proofs.Walk.{First, first, first-stands, none-left}
 use Rattle.texts.proofs.Cases.{dotted-next}
 use borrow.Author.Needs.{needs}
 use Rattle.texts.proofs.dotted_length.Statement.{statement}

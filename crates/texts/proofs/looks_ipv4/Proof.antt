@@ -6,7 +6,7 @@ use Rattle.rules.specs.Bytes.{all}
 use Rattle.rules.specs.Rules.{octet, looksIPv4}
 use Rattle.rules.specs.Reader.{contents}
 use Rattle.rules.proofs.Texts.{Items}
-use Rattle.texts.proofs.Walk.{First, first, first-stands, none-left}
+use Rattle.rules.proofs.Walk.{First, first, first-stands, none-left}
 use Rattle.texts.proofs.Cases.{looks-other, looks-four, all-next, all-no}
 use borrow.Author.Needs.{needs}
 use Rattle.texts.proofs.looks_ipv4.Statement.{statement}

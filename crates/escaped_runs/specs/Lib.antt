@@ -1,0 +1,2 @@
+-- Texts in a row, as a loop writes them.
+pub mod Marked

@@ -1,0 +1,31 @@
+-- `sameness::judge` meets its contract.
+use native.Mathlib.Omega.{arith}
+use denote.Ref.{now}
+use Rattle.rules.proofs.Tools.{octets-of}
+use Rattle.sameness.proofs.Laws.{both-judged}
+use borrow.Author.Needs.{needs}
+use Rattle.sameness.proofs.judge.Statement.{statement}
+use Rattle.sameness.proofs.judge.Tie as tie
+
+slice-aggregate-compare : tie.Need-slice-aggregate-compare
+slice-aggregate-compare c = search needs
+
+slice-aggregate-compare-2 : tie.Need-slice-aggregate-compare-2
+slice-aggregate-compare-2 c = search needs
+
+compare-requires : tie.Need-compare-requires
+compare-requires c κs = search needs
+
+returns : tie.Need-returns
+returns c =
+    let m = c .before .before .before .before in
+    let k = m .before .before .before in
+    let s = k .before .before in
+    let a = now (s .args .first) in
+    let b = now (s .args .second) in
+    let ha = octets-of a (λ i. omega (arith, k .before .shared-slice-known .given i)) in
+    let hb = octets-of b (λ i. omega (arith, k .shared-slice-known2 .given i)) in
+    both-judged a b _ _ (m .compare .result) ha hb (omega arith) (omega arith) (m .compare .ensures .0)
+
+pub judge-spec : {M : Type 1} → statement M
+judge-spec = tie.close (tie.spec slice-aggregate-compare slice-aggregate-compare-2 compare-requires returns)

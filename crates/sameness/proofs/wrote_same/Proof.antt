@@ -1,0 +1,26 @@
+-- `sameness::wrote_same` meets its contract.
+use native.Mathlib.Omega.{arith}
+use mathlib.Core.Path.{sym}
+use lib.Seq.{length-take-le}
+use Rattle.sameness.proofs.Laws.{wrote-none, wrote-both}
+use borrow.Author.Needs.{needs}
+use Rattle.sameness.proofs.wrote_same.Statement.{statement}
+use Rattle.sameness.proofs.wrote_same.Tie as tie
+
+returns : tie.Need-returns
+returns c = wrote-none (λ w. omega arith)
+
+returns-2 : tie.Need-returns-2
+returns-2 c = wrote-none (λ w. omega arith)
+
+slice-aggregate-same-at : tie.Need-slice-aggregate-same-at
+slice-aggregate-same-at c = sym (length-take-le _ _ (omega arith))
+
+same-at-requires : tie.Need-same-at-requires
+same-at-requires c κs = search needs
+
+returns-3 : tie.Need-returns-3
+returns-3 c = wrote-both (omega arith) (omega arith) (c .same-at .ensures)
+
+pub wrote-same-spec : {M : Type 1} → statement M
+wrote-same-spec = tie.close (tie.spec returns returns-2 slice-aggregate-same-at same-at-requires returns-3)

@@ -1,0 +1,2 @@
+-- What comparing two links answers.
+pub mod Answers

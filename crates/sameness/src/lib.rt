@@ -1,0 +1,73 @@
+// Whether two links are the same CRI: both URI texts are written, and compared.
+ghost use Prim.Native.Nat.{_≤_};
+ghost use mathlib.Core.Path.{_≡_};
+ghost use mathlib.Core.Bool.{true};
+ghost use mathlib.Core.Logic.{_↔_};
+ghost use lib.ListN.{length};
+ghost use Rattle.rules.specs.Model.{limits};
+ghost use Rattle.rules.specs.Calls.{after, textCall};
+ghost use Rattle.sameness.specs.Answers.{WroteSame, Answered, CallsDemand3, Judged};
+use cri::Done;
+
+// What the two calls answered, and whether both wrote a text and the two texts are equal.
+pub struct Compared {
+    pub first: Done,
+    pub second: Done,
+    pub equal: bool,
+}
+
+// The numbers of the two calls, and whether both links are accepted as absolute and are the same CRI.
+pub struct Verdict {
+    pub first: u8,
+    pub second: u8,
+    pub equal: bool,
+}
+
+// Whether two calls, which left their rooms as x and y, both wrote, and what they wrote is equal, length and bytes.
+fn wrote_same(first: Done, second: Done, x: &[u8], y: &[u8]) -> bool
+    requires { ⌜ (first .length ≤ length (now x)) × (second .length ≤ length (now y)) ⌝ }
+    ensures { λ r. ⌜ (r ≡ true) ↔ WroteSame first second (now (x .entry)) (now (y .entry)) ⌝ }
+{
+    if first.number != 0 {
+        return false;
+    }
+    if second.number != 0 {
+        return false;
+    }
+    let n = first.length;
+    let m = second.length;
+    texts::same_at(x, 0, n, &y[..m])
+}
+
+// Writes the URI text of the first link into the room x and that of the second into the room y, and compares what was written. Each call
+// answers, and leaves in its room, what cri::uri_text does.
+pub fn compare(first: &[u8], second: &[u8], x: &mut [u8], y: &mut [u8]) -> Compared
+    ensures { λ r. ⌜ Answered (now (first .entry)) (now (second .entry)) (length (now (x .entry))) (length (now (y .entry))) r ⌝ }
+    ensures { λ r. ⌜ CallsDemand3 (now (first .entry)) (now (second .entry)) (length (now (x .entry))) (length (now (y .entry))) r (now (x .exit)) (now (y .exit)) ⌝ }
+    ensures { λ _. ⌜ now (x .exit) ≡ after (textCall limits (now (first .entry))) (now (x .entry)) ⌝ }
+    ensures { λ _. ⌜ now (y .exit) ≡ after (textCall limits (now (second .entry))) (now (y .entry)) ⌝ }
+{
+    let one = cri::uri_text(first, x);
+    let other = cri::uri_text(second, y);
+    Compared {
+        first: one,
+        second: other,
+        equal: wrote_same(one, other, x, y),
+    }
+}
+
+// Whether two links are the same CRI. The rooms have 3 * 1,024 + 13 bytes, enough for the text of every accepted link, so no number is 10.
+pub fn judge(first: &[u8], second: &[u8]) -> Verdict
+    ensures { λ r. ⌜ Judged (now (first .entry)) (now (second .entry)) r ⌝ }
+{
+    let mut x = [0u8; 3085];
+    let mut y = [0u8; 3085];
+    let compared = compare(first, second, &mut x, &mut y);
+    let one = compared.first;
+    let other = compared.second;
+    Verdict {
+        first: one.number,
+        second: other.number,
+        equal: compared.equal,
+    }
+}

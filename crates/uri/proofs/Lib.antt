@@ -1,0 +1,3 @@
+-- The laws of the text as it is written.
+mod Texts
+mod Written

@@ -1,0 +1,147 @@
+// The URI text of an absolute CRI: read, measured where the room is short, and written part by part.
+ghost use Prim.Native.Nat.{_+_, _≤_};
+ghost use mathlib.Core.Path.{_≡_};
+ghost use lib.ListN.{length};
+ghost use lib.Dec.{leb};
+ghost use Rattle.rules.specs.Model.{limits};
+ghost use Rattle.rules.specs.Calls.{write, outcome, after, textCall};
+ghost use Rattle.rules.proofs.Openings.{saidOpening};
+ghost use Rattle.put.specs.Wrote.{Wrote};
+ghost use Rattle.reader.specs.Code.{openingOf, foundOf};
+ghost use Rattle.outcomes.specs.Answer.{doneIs};
+ghost use Rattle.uri_parts.specs.Pieces.{Short};
+ghost use Rattle.uri.specs.Texts.{originPiece, textAt, OpeningPrints, Prints};
+use outcomes::Done;
+use put::put_bytes;
+use reader::Answer;
+use reader::Found;
+use reader::OpeningAt;
+use uri_parts::fragment_length;
+use uri_parts::host_length;
+use uri_parts::path_length;
+use uri_parts::port_length;
+use uri_parts::put_fragment;
+use uri_parts::put_host;
+use uri_parts::put_path;
+use uri_parts::put_port;
+use uri_parts::put_query;
+use uri_parts::put_scheme;
+use uri_parts::query_length;
+use uri_parts::scheme_length;
+
+// ---- scheme and authority
+
+// How long scheme, "://", host and port are.
+fn origin_length(s: &[u8], opening: OpeningAt) -> usize
+    requires { ⌜ length (now s) ≤ limits .bytes ⌝ }
+    requires { ⌜ OpeningPrints (now s) (openingOf opening) ⌝ }
+    requires { ⌜ Short (originPiece (saidOpening (now s) (openingOf opening))) ⌝ }
+    ensures { λ r. ⌜ r ≡ length (originPiece (saidOpening (now (s .entry)) (openingOf opening))) ⌝ }
+{
+    match opening {
+        OpeningAt::Discard(_) => 0,
+        OpeningAt::DiscardAll => 0,
+        OpeningAt::Full(scheme, authority) => {
+            let host = authority.host;
+            let port = authority.port;
+            scheme_length(scheme) + 2 + host_length(s, host) + port_length(port)
+        }
+    }
+}
+
+// Scheme, "://", host and port. The last "/" comes with the host.
+fn put_origin(room: &mut [u8], at: usize, s: &[u8], opening: OpeningAt) -> usize
+    requires { ⌜ OpeningPrints (now s) (openingOf opening) ⌝ }
+    requires { ⌜ at + length (originPiece (saidOpening (now s) (openingOf opening))) ≤ length (now room) ⌝ }
+    ensures { λ r. ⌜ Wrote (now (room .entry)) at (originPiece (saidOpening (now (s .entry)) (openingOf opening))) (now (room .exit)) r ⌝ }
+{
+    match opening {
+        OpeningAt::Discard(_) => at,
+        OpeningAt::DiscardAll => at,
+        OpeningAt::Full(scheme, authority) => {
+            let host = authority.host;
+            let port = authority.port;
+            let p = put_scheme(room, at, s, scheme);
+            let q = put_bytes(room, p, b":/");
+            let r = put_host(room, q, s, host);
+            put_port(room, r, port)
+        }
+    }
+}
+
+// ---- the whole
+
+// How long the text is.
+fn text_length(s: &[u8], found: Found) -> usize
+    requires { ⌜ Prints (now s) (foundOf found) ⌝ }
+    ensures { λ r. ⌜ r ≡ length (textAt (now (s .entry)) (foundOf found)) ⌝ }
+{
+    let opening = found.opening;
+    let path = found.path;
+    let query = found.query;
+    let fragment = found.fragment;
+    origin_length(s, opening)
+        + path_length(s, path)
+        + query_length(s, query)
+        + fragment_length(s, fragment)
+}
+
+// The text, from the start of the room on.
+fn put_text(room: &mut [u8], s: &[u8], found: Found) -> usize
+    requires { ⌜ Prints (now s) (foundOf found) ⌝ }
+    requires { ⌜ length (textAt (now s) (foundOf found)) ≤ length (now room) ⌝ }
+    ensures { λ r. ⌜ Wrote (now (room .entry)) 0 (textAt (now (s .entry)) (foundOf found)) (now (room .exit)) r ⌝ }
+{
+    let opening = found.opening;
+    let path = found.path;
+    let query = found.query;
+    let fragment = found.fragment;
+    let a = put_origin(room, 0, s, opening);
+    let b = put_path(room, a, s, path);
+    let c = put_query(room, b, s, query);
+    put_fragment(room, c, s, fragment)
+}
+
+// Whether the text has at most so many bytes. None has more than 3n + 13, so it is measured only for less room than that.
+fn has_room(s: &[u8], found: Found, size: usize) -> bool
+    requires { ⌜ Prints (now s) (foundOf found) ⌝ }
+    ensures { λ r. ⌜ r ≡ leb (length (textAt (now (s .entry)) (foundOf found))) size ⌝ }
+{
+    if 3 * s.len() + 13 <= size {
+        return true;
+    }
+    text_length(s, found) <= size
+}
+
+// The text of an absolute reference; 10 where the room is shorter.
+fn print(s: &[u8], found: Found, room: &mut [u8]) -> Done
+    requires { ⌜ Prints (now s) (foundOf found) ⌝ }
+    ensures { λ r. ⌜ doneIs r ≡ outcome (write (textAt (now (s .entry)) (foundOf found))) (length (now (room .entry))) ⌝ }
+    ensures { λ _. ⌜ now (room .exit) ≡ after (write (textAt (now (s .entry)) (foundOf found))) (now (room .entry)) ⌝ }
+{
+    if has_room(s, found, room.len()) {
+        return Done {
+            number: 0,
+            length: put_text(room, s, found),
+        };
+    }
+    outcomes::refused(10)
+}
+
+// The answer, and the URI text in the room.
+pub fn uri_text(s: &[u8], room: &mut [u8]) -> Done
+    ensures { λ r. ⌜ doneIs r ≡ outcome (textCall limits (now (s .entry))) (length (now (room .entry))) ⌝ }
+    ensures { λ _. ⌜ now (room .exit) ≡ after (textCall limits (now (s .entry))) (now (room .entry)) ⌝ }
+{
+    match reader::read(s) {
+        Answer::Refused(k, _) => outcomes::refused(k),
+        Answer::Is(found) => {
+            let opening = found.opening;
+            if absolutes::is_absolute(opening) {
+                print(s, found, room)
+            } else {
+                outcomes::refused(8)
+            }
+        }
+    }
+}

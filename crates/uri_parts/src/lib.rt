@@ -1,0 +1,261 @@
+// The parts of a URI text, each measured and written from where it stands in an input that was accepted.
+ghost use Prim.Native.Nat.{_+_, _≤_};
+ghost use mathlib.Core.Path.{_≡_};
+ghost use mathlib.Core.Bool.{true, _||_};
+ghost use lib.ListN.{length};
+ghost use lib.Dec.{eqb};
+ghost use Rattle.rules.specs.Bytes.{Bytes, part};
+ghost use Rattle.rules.specs.Model.{limits};
+ghost use Rattle.rules.specs.Rules.{schemes, schemeIn};
+ghost use Rattle.rules.specs.Address.{addressText};
+ghost use Rattle.rules.specs.Text.{entryName};
+ghost use Rattle.rules.proofs.Slots.{saidTexts, saidText};
+ghost use Rattle.rules.proofs.Authorities.{saidHost, GoodPort};
+ghost use Rattle.rules.proofs.Openings.{saidScheme};
+ghost use Rattle.rules.proofs.Standing.{SchemeStands, TextStands};
+ghost use Rattle.put.specs.Wrote.{Wrote};
+ghost use Rattle.reader.specs.Code.{slotOf, hostOf, portOf, schemeOf};
+ghost use Rattle.uri_parts.specs.Pieces.{schemePiece, hostPiece, portPiece, pathPiece, queryPiece, fragmentPiece, HostPrints, TextsPrint, Short};
+use escape::Class;
+use escape::bare_bits;
+use escape::escaped_length;
+use escape::hex_digits;
+use escape::put_escaped;
+use escaped_runs::put_run;
+use escaped_runs::run_length;
+use ipv4::ipv4_length;
+use ipv4::put_ipv4;
+use ipv6::ipv6_length;
+use ipv6::put_ipv6;
+use numeral::decimal_length;
+use numeral::put_decimal;
+use put::put_byte;
+use put::put_bytes;
+use put::put_part;
+use reader::HostAt;
+use reader::Port;
+use reader::SchemeAt;
+use reader::Slot;
+
+// ---- scheme
+
+// How long the name of a scheme number is.
+fn name_length(n: u64) -> usize
+    ensures { λ r. ⌜ r ≡ length (entryName (schemeIn schemes n)) ⌝ }
+{
+    match n {
+        0 => texts::COAP.len(),
+        1 => texts::COAPS.len(),
+        6 => texts::COAP_TCP.len(),
+        7 => texts::COAPS_TCP.len(),
+        8 => texts::COAP_WS.len(),
+        9 => texts::COAPS_WS.len(),
+        _ => 0,
+    }
+}
+
+// The name of a scheme number.
+fn put_name(room: &mut [u8], at: usize, n: u64) -> usize
+    requires { ⌜ at + length (entryName (schemeIn schemes n)) ≤ length (now room) ⌝ }
+    ensures { λ r. ⌜ Wrote (now (room .entry)) at (entryName (schemeIn schemes n)) (now (room .exit)) r ⌝ }
+{
+    match n {
+        0 => put_bytes(room, at, &texts::COAP),
+        1 => put_bytes(room, at, &texts::COAPS),
+        6 => put_bytes(room, at, &texts::COAP_TCP),
+        7 => put_bytes(room, at, &texts::COAPS_TCP),
+        8 => put_bytes(room, at, &texts::COAP_WS),
+        9 => put_bytes(room, at, &texts::COAPS_WS),
+        _ => at,
+    }
+}
+
+// How long a scheme is, by its number or as its text.
+pub fn scheme_length(scheme: SchemeAt) -> usize
+    ensures { λ r. ⌜ ((bs : Bytes) → SchemeStands bs (schemeOf scheme) → r ≡ length (schemePiece (saidScheme bs (schemeOf scheme)))) ⌝ }
+{
+    match scheme {
+        SchemeAt::Unset => 0,
+        SchemeAt::Number(n) => name_length(n),
+        SchemeAt::Name(_, n) => n,
+    }
+}
+
+// A scheme: the name of its number, or its text.
+pub fn put_scheme(room: &mut [u8], at: usize, s: &[u8], scheme: SchemeAt) -> usize
+    requires { ⌜ SchemeStands (now s) (schemeOf scheme) ⌝ }
+    requires { ⌜ at + length (schemePiece (saidScheme (now s) (schemeOf scheme))) ≤ length (now room) ⌝ }
+    ensures { λ r. ⌜ Wrote (now (room .entry)) at (schemePiece (saidScheme (now (s .entry)) (schemeOf scheme))) (now (room .exit)) r ⌝ }
+{
+    match scheme {
+        SchemeAt::Unset => at,
+        SchemeAt::Number(n) => put_name(room, at, n),
+        SchemeAt::Name(from, n) => put_part(room, at, s, from, n),
+    }
+}
+
+// ---- authority; the "/" before the host is the last of "://"
+
+// How long the text of an address is.
+fn address_length(s: &[u8], from: usize, n: usize) -> usize
+    requires { ⌜ (from + n ≤ length (now s)) × ((eqb n 4 || eqb n 16) ≡ true) ⌝ }
+    requires { ⌜ Short (addressText (part (now s) from n)) ⌝ }
+    ensures { λ r. ⌜ r ≡ length (addressText (part (now (s .entry)) from n)) ⌝ }
+{
+    if n == 4 {
+        return ipv4_length(s, from);
+    }
+    ipv6_length(s, from) + 2
+}
+
+// The text of an address of 4 or 16 bytes, the latter in brackets.
+fn put_address(room: &mut [u8], at: usize, s: &[u8], from: usize, n: usize) -> usize
+    requires { ⌜ (from + n ≤ length (now s)) × ((eqb n 4 || eqb n 16) ≡ true) ⌝ }
+    requires { ⌜ at + length (addressText (part (now s) from n)) ≤ length (now room) ⌝ }
+    ensures { λ r. ⌜ Wrote (now (room .entry)) at (addressText (part (now (s .entry)) from n)) (now (room .exit)) r ⌝ }
+{
+    if n == 4 {
+        return put_ipv4(room, at, s, from);
+    }
+    let p = put_byte(room, at, b'[');
+    let q = put_ipv6(room, p, s, from);
+    put_byte(room, q, b']')
+}
+
+// How long a "/" and a host are.
+pub fn host_length(s: &[u8], host: HostAt) -> usize
+    requires { ⌜ length (now s) ≤ limits .bytes ⌝ }
+    requires { ⌜ HostPrints (now s) (hostOf host) ⌝ }
+    requires { ⌜ Short (hostPiece (saidHost (now s) (hostOf host))) ⌝ }
+    ensures { λ r. ⌜ r ≡ length (hostPiece (saidHost (now (s .entry)) (hostOf host))) ⌝ }
+{
+    match host {
+        HostAt::Address(from, n) => 1 + address_length(s, from, n),
+        HostAt::Labels(from, n) => run_length(s, from, n, Class::Label),
+    }
+}
+
+// A "/" and a host: an address, or labels joined by ".".
+pub fn put_host(room: &mut [u8], at: usize, s: &[u8], host: HostAt) -> usize
+    requires { ⌜ HostPrints (now s) (hostOf host) ⌝ }
+    requires { ⌜ at + length (hostPiece (saidHost (now s) (hostOf host))) ≤ length (now room) ⌝ }
+    ensures { λ r. ⌜ Wrote (now (room .entry)) at (hostPiece (saidHost (now (s .entry)) (hostOf host))) (now (room .exit)) r ⌝ }
+{
+    match host {
+        HostAt::Address(from, n) => {
+            let p = put_byte(room, at, b'/');
+            put_address(room, p, s, from, n)
+        }
+        HostAt::Labels(from, n) => put_run(room, at, s, from, n, Class::Label, b'/', b'.'),
+    }
+}
+
+// How long a ":" and a port are, if there is one.
+pub fn port_length(port: Port) -> usize
+    requires { ⌜ GoodPort (portOf port) ⌝ }
+    requires { ⌜ Short (portPiece (portOf port)) ⌝ }
+    ensures { λ r. ⌜ r ≡ length (portPiece (portOf port)) ⌝ }
+{
+    match port {
+        Port::Unset => 0,
+        Port::Is(p) => 1 + decimal_length(p as u16),
+    }
+}
+
+// A ":" and a port in decimal, if there is one.
+pub fn put_port(room: &mut [u8], at: usize, port: Port) -> usize
+    requires { ⌜ GoodPort (portOf port) ⌝ }
+    requires { ⌜ at + length (portPiece (portOf port)) ≤ length (now room) ⌝ }
+    ensures { λ r. ⌜ Wrote (now (room .entry)) at (portPiece (portOf port)) (now (room .exit)) r ⌝ }
+{
+    match port {
+        Port::Unset => at,
+        Port::Is(p) => {
+            let q = put_byte(room, at, b':');
+            put_decimal(room, q, p as u16)
+        }
+    }
+}
+
+// ---- path, query, fragment
+
+// How long a "/" and a path are.
+pub fn path_length(s: &[u8], path: Slot) -> usize
+    requires { ⌜ length (now s) ≤ limits .bytes ⌝ }
+    requires { ⌜ TextsPrint (now s) (slotOf path) ⌝ }
+    ensures { λ r. ⌜ r ≡ length (pathPiece (saidTexts (now (s .entry)) (slotOf path))) ⌝ }
+{
+    match path {
+        Slot::Unset => 1,
+        Slot::Set(at, n) => run_length(s, at, n, Class::Segment),
+    }
+}
+
+// A "/" and the segments joined by "/", if there are any.
+pub fn put_path(room: &mut [u8], at: usize, s: &[u8], path: Slot) -> usize
+    requires { ⌜ TextsPrint (now s) (slotOf path) ⌝ }
+    requires { ⌜ at + length (pathPiece (saidTexts (now s) (slotOf path))) ≤ length (now room) ⌝ }
+    ensures { λ r. ⌜ Wrote (now (room .entry)) at (pathPiece (saidTexts (now (s .entry)) (slotOf path))) (now (room .exit)) r ⌝ }
+{
+    match path {
+        Slot::Unset => put_byte(room, at, b'/'),
+        Slot::Set(from, n) => put_run(room, at, s, from, n, Class::Segment, b'/', b'/'),
+    }
+}
+
+// How long a "?" and a query are, if one is set.
+pub fn query_length(s: &[u8], query: Slot) -> usize
+    requires { ⌜ length (now s) ≤ limits .bytes ⌝ }
+    requires { ⌜ TextsPrint (now s) (slotOf query) ⌝ }
+    ensures { λ r. ⌜ r ≡ length (queryPiece (saidTexts (now (s .entry)) (slotOf query))) ⌝ }
+{
+    match query {
+        Slot::Unset => 0,
+        Slot::Set(at, n) => run_length(s, at, n, Class::Parameter),
+    }
+}
+
+// A "?" and the parameters joined by "&", if a query is set.
+pub fn put_query(room: &mut [u8], at: usize, s: &[u8], query: Slot) -> usize
+    requires { ⌜ TextsPrint (now s) (slotOf query) ⌝ }
+    requires { ⌜ at + length (queryPiece (saidTexts (now s) (slotOf query))) ≤ length (now room) ⌝ }
+    ensures { λ r. ⌜ Wrote (now (room .entry)) at (queryPiece (saidTexts (now (s .entry)) (slotOf query))) (now (room .exit)) r ⌝ }
+{
+    match query {
+        Slot::Unset => at,
+        Slot::Set(from, n) => put_run(room, at, s, from, n, Class::Parameter, b'?', b'&'),
+    }
+}
+
+// How long a "#" and a fragment are, if one is set.
+pub fn fragment_length(s: &[u8], fragment: Slot) -> usize
+    requires { ⌜ length (now s) ≤ limits .bytes ⌝ }
+    requires { ⌜ TextStands (now s) (slotOf fragment) ⌝ }
+    requires { ⌜ Short (fragmentPiece (saidText (now s) (slotOf fragment))) ⌝ }
+    ensures { λ r. ⌜ r ≡ length (fragmentPiece (saidText (now (s .entry)) (slotOf fragment))) ⌝ }
+{
+    match fragment {
+        Slot::Unset => 0,
+        Slot::Set(at, n) => {
+            let bits = bare_bits(Class::Fragment);
+            1 + escaped_length(s, at, n, Class::Fragment, &bits)
+        }
+    }
+}
+
+// A "#" and a fragment, if one is set.
+pub fn put_fragment(room: &mut [u8], at: usize, s: &[u8], fragment: Slot) -> usize
+    requires { ⌜ TextStands (now s) (slotOf fragment) ⌝ }
+    requires { ⌜ at + length (fragmentPiece (saidText (now s) (slotOf fragment))) ≤ length (now room) ⌝ }
+    ensures { λ r. ⌜ Wrote (now (room .entry)) at (fragmentPiece (saidText (now (s .entry)) (slotOf fragment))) (now (room .exit)) r ⌝ }
+{
+    match fragment {
+        Slot::Unset => at,
+        Slot::Set(from, n) => {
+            let bits = bare_bits(Class::Fragment);
+            let digits = hex_digits();
+            let p = put_byte(room, at, b'#');
+            put_escaped(room, p, s, from, n, Class::Fragment, &bits, &digits)
+        }
+    }
+}
