@@ -63,8 +63,3 @@ module _ (k : Class) (mark d : ℕ) (bs : Bytes) (at : ℕ) where
   unfolding contents spans
   run-some zero h = absurd (h refl)
   run-some (suc n) h = marked-join k mark d (contentAt bs at) (contents bs (endAt bs at) n)
-
-  -- of any number: at most three bytes for each byte from the position on, and one
-  pub run-most : (n : ℕ) → Items bs at n → length (mark ∷ join d (map (escape k) (contents bs at n))) ≤ 3 * (length bs - at) + 1
-  run-most zero i = omega (arith, ap length (run-none zero refl))
-  run-most (suc n) i = omega (arith, ap length (run-some (suc n) (λ e. omega arith)), marked-most k mark d bs at (suc n) i)

@@ -37,8 +37,8 @@ same-equal (c ∷ s) [] e = never e
 same-equal (c ∷ s) (d ∷ t) e = ap₂ (λ (x : ℕ) (xs : Bytes). x ∷ xs) (eqb-true c d (and-left (eqb c d) (same s t) e)) (same-equal s t (and-right (eqb c d) (same s t) e))
 
 -- where not both calls are done, the answer is false
-pub wrote-none : {A : Type 0} → (A → ⊥) → (false ≡ true) ↔ A
-wrote-none h = (λ e. never e, λ w. absurd (h w))
+pub never-equal : {A : Type 0} → (A → ⊥) → (false ≡ true) ↔ A
+never-equal h = (λ e. never e, λ w. absurd (h w))
 
 -- where both are, it is the comparison of what they wrote
 pub wrote-both : {m n : Done} {x y : Bytes} {r : Bool} → m .number ≡ 0 → n .number ≡ 0 → r ≡ same (take (m .length) x) (take (n .length) y)

@@ -2,16 +2,16 @@
 use native.Mathlib.Omega.{arith}
 use mathlib.Core.Path.{sym}
 use lib.Seq.{length-take-le}
-use Rattle.sameness.proofs.Laws.{wrote-none, wrote-both}
+use Rattle.sameness.proofs.Laws.{never-equal, wrote-both}
 use borrow.Author.Needs.{needs}
 use Rattle.sameness.proofs.wrote_same.Statement.{statement}
 use Rattle.sameness.proofs.wrote_same.Tie as tie
 
 returns : tie.Need-returns
-returns c = wrote-none (λ w. omega arith)
+returns c = never-equal (λ w. omega arith)
 
 returns-2 : tie.Need-returns-2
-returns-2 c = wrote-none (λ w. omega arith)
+returns-2 c = never-equal (λ w. omega arith)
 
 slice-aggregate-same-at : tie.Need-slice-aggregate-same-at
 slice-aggregate-same-at c = sym (length-take-le _ _ (omega arith))

@@ -19,7 +19,8 @@ enum-known-opening : tie.Need-enum-known-opening
 enum-known-opening c = search needs
 
 put-scheme-requires : tie.Need-put-scheme-requires
-put-scheme-requires c κs = let s = c .before .before .before .before .before .before in
+put-scheme-requires c κs =
+    let s = c .before .before .before .before .before .before in
     let bs = now (s .args .s) in
     let e = ap openingOf (c .before .before .opening .given .1) in
     (full-prints bs e (s .pre .0) .0, omega (arith, s .pre .1, origin-sum bs e))
@@ -31,13 +32,15 @@ put-bytes-requires : tie.Need-put-bytes-requires
 put-bytes-requires c κs = omega (arith, c .before .before .before .before .before .before .before .before .before .before .before .pre .1, origin-sum (now (c .before .before .before .before .before .before .before .before .before .before .before .args .s)) (ap openingOf (c .before .before .before .before .before .before .before .opening .given .1)), c .before .before .before .before .put-scheme .ensures .place, wrote-length (c .before .before .before .before .put-scheme .ensures))
 
 put-host-requires : tie.Need-put-host-requires
-put-host-requires c κs = let s = c .before .before .before .before .before .before .before .before .before .before .before .before .before .before .before in
+put-host-requires c κs =
+    let s = c .before .before .before .before .before .before .before .before .before .before .before .before .before .before .before in
     let bs = now (s .args .s) in
     let e = ap openingOf (c .before .before .before .before .before .before .before .before .before .before .before .opening .given .1) in
     (full-prints bs e (s .pre .0) .1, omega (arith, s .pre .1, origin-sum bs e, c .before .before .before .before .before .before .before .before .put-scheme .ensures .place, wrote-length (c .before .before .before .before .before .before .before .before .put-scheme .ensures), c .before .before .before .put-bytes .ensures .place, wrote-length (c .before .before .before .put-bytes .ensures)))
 
 put-port-requires : tie.Need-put-port-requires
-put-port-requires c κs = let s = c .before .before .before .before .before .before .before .before .before .before .before .before .before .before .before .before .before .before .before in
+put-port-requires c κs =
+    let s = c .before .before .before .before .before .before .before .before .before .before .before .before .before .before .before .before .before .before .before in
     let bs = now (s .args .s) in
     let e = ap openingOf (c .before .before .before .before .before .before .before .before .before .before .before .before .before .before .before .opening .given .1) in
     (full-prints bs e (s .pre .0) .2, omega (arith, s .pre .1, origin-sum bs e, c .before .before .before .before .before .before .before .before .before .before .before .before .put-scheme .ensures .place, wrote-length (c .before .before .before .before .before .before .before .before .before .before .before .before .put-scheme .ensures), c .before .before .before .before .before .before .before .put-bytes .ensures .place, wrote-length (c .before .before .before .before .before .before .before .put-bytes .ensures), c .before .before .before .put-host .ensures .place, wrote-length (c .before .before .before .put-host .ensures)))

@@ -28,7 +28,8 @@ is-absolute-requires : tie.Need-is-absolute-requires
 is-absolute-requires c κs = search needs
 
 print-requires : tie.Need-print-requires
-print-requires c κs = let bs = now (c .before .before .before .before .before .before .before .before .before .args .s) in
+print-requires c κs =
+    let bs = now (c .before .before .before .before .before .before .before .before .before .args .s) in
     let h = octets-of bs (λ i. omega (arith, c .before .before .before .before .before .before .before .before .shared-slice-known .given i)) in
     let e = sym (c .before .before .before .before .before .before .read .ensures) ∙ ap answerIs (c .before .before .before .before .found .given .1) in
     prints bs _ h e (sym (c .before .before .is-absolute .ensures) ∙ c .before .if1 .taken)
@@ -37,20 +38,23 @@ refused-requires-2 : tie.Need-refused-requires-2
 refused-requires-2 c κs = search needs
 
 returns : tie.Need-returns
-returns c = let u = right-refused _ (text-refused (now (c .before .before .before .before .before .before .before .args .s)) _ _ (sym (c .before .before .before .before .read .ensures) ∙ ap answerIs (c .before .before .k .given .1))) in
+returns c =
+    let u = right-refused _ (text-refused (now (c .before .before .before .before .before .before .before .args .s)) _ _ (sym (c .before .before .before .before .read .ensures) ∙ ap answerIs (c .before .before .k .given .1))) in
     (c .refused .ensures ∙ u .answered, u .holds)
 
 same-length : tie.Need-same-length
 same-length c = search needs
 
 returns-2 : tie.Need-returns-2
-returns-2 c = let bs = now (c .before .before .before .before .before .before .before .before .before .before .before .before .args .s) in
+returns-2 c =
+    let bs = now (c .before .before .before .before .before .before .before .before .before .before .before .before .args .s) in
     let room = now (c .before .before .before .before .before .before .before .before .before .before .before .before .args .room) in
     let u = sym (text-written bs _ (octets-of bs (λ i. omega (arith, c .before .before .before .before .before .before .before .before .before .before .before .shared-slice-known .given i))) (sym (c .before .before .before .before .before .before .before .before .before .read .ensures) ∙ ap answerIs (c .before .before .before .before .before .before .before .found .given .1)) (sym (c .before .before .before .before .before .is-absolute .ensures) ∙ c .before .before .before .before .if1 .taken)) in
     (c .before .before .print .ensures .0 ∙ ap (λ (r : Ruling). outcome r (length room)) u, c .before .before .print .ensures .1 ∙ ap (λ (r : Ruling). after r room) u)
 
 returns-3 : tie.Need-returns-3
-returns-3 c = let u = right-refused _ (text-relative (now (c .before .before .before .before .before .before .before .before .before .args .s)) _ (sym (c .before .before .before .before .before .before .read .ensures) ∙ ap answerIs (c .before .before .before .before .found .given .1)) (sym (c .before .before .is-absolute .ensures) ∙ c .before .if1 .left)) in
+returns-3 c =
+    let u = right-refused _ (text-relative (now (c .before .before .before .before .before .before .before .before .before .args .s)) _ (sym (c .before .before .before .before .before .before .read .ensures) ∙ ap answerIs (c .before .before .before .before .found .given .1)) (sym (c .before .before .is-absolute .ensures) ∙ c .before .if1 .left)) in
     (c .refused2 .ensures ∙ u .answered, u .holds)
 
 pub uri-text-spec : {M : Type 1} → statement M

@@ -20,12 +20,14 @@ ipv6-length-requires : tie.Need-ipv6-length-requires
 ipv6-length-requires c κs = omega (arith, c .before .before .pre .0 .0, sixteen _ (c .if1 .left) (c .before .before .pre .0 .1))
 
 add-result : tie.Need-add-result
-add-result c = let s = c .before .before .before in
+add-result c =
+    let s = c .before .before .before in
     let bs = now (s .args .s) in
     omega (arith, s .pre .1, c .ipv6-length .ensures, ap length (ipv6-piece bs (s .args .from) (s .args .n) (c .before .if1 .left) (s .pre .0 .1) (s .pre .0 .0)), length-append (ipv6Text (part bs (s .args .from) 16)) (rightBracket ∷ []))
 
 returns-2 : tie.Need-returns-2
-returns-2 c = let s = c .before .before .before in
+returns-2 c =
+    let s = c .before .before .before in
     let bs = now (s .args .s) in
     omega (arith, c .ipv6-length .ensures, ap length (ipv6-piece bs (s .args .from) (s .args .n) (c .before .if1 .left) (s .pre .0 .1) (s .pre .0 .0)), length-append (ipv6Text (part bs (s .args .from) 16)) (rightBracket ∷ []))
 

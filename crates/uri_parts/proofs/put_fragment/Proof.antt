@@ -26,7 +26,8 @@ put-byte-requires : tie.Need-put-byte-requires
 put-byte-requires c κs = omega (arith, c .before .before .before .before .before .before .before .before .pre .1, ap length (fragment-set (now (c .before .before .before .before .before .before .before .before .args .s)) (ap slotOf (c .before .before .before .before .fragment .given .1))))
 
 put-escaped-requires : tie.Need-put-escaped-requires
-put-escaped-requires c κs = let e = ap slotOf (c .before .before .before .before .before .before .before .before .before .before .fragment .given .1) in
+put-escaped-requires c κs =
+    let e = ap slotOf (c .before .before .before .before .before .before .before .before .before .before .fragment .given .1) in
     ((c .before .before .before .before .before .before .before .before .bare-bits .ensures, c .before .before .before .before .before .before .before .hex-digits .ensures), (rw e at (c .before .before .before .before .before .before .before .before .before .before .before .before .before .before .pre .0), omega (arith, c .before .before .before .before .before .before .before .before .before .before .before .before .before .before .pre .1, c .before .before .before .before .before .put-byte .ensures .place, wrote-length (c .before .before .before .before .before .put-byte .ensures), ap length (fragment-set (now (c .before .before .before .before .before .before .before .before .before .before .before .before .before .before .args .s)) e))))
 
 returns : tie.Need-returns

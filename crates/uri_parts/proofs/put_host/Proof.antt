@@ -17,7 +17,8 @@ put-byte-requires : tie.Need-put-byte-requires
 put-byte-requires c κs = omega (arith, c .before .before .before .before .before .before .pre .1, ap length (host-address (now (c .before .before .before .before .before .before .args .s)) (ap hostOf (c .before .before .host .given .1))))
 
 put-address-requires : tie.Need-put-address-requires
-put-address-requires c κs = let e = ap hostOf (c .before .before .before .before .before .before .host .given .1) in
+put-address-requires c κs =
+    let e = ap hostOf (c .before .before .before .before .before .before .host .given .1) in
     (rw e at (c .before .before .before .before .before .before .before .before .before .before .pre .0), omega (arith, c .before .before .before .before .before .before .before .before .before .before .pre .1, c .before .before .before .put-byte .ensures .place, wrote-length (c .before .before .before .put-byte .ensures), ap length (host-address (now (c .before .before .before .before .before .before .before .before .before .before .args .s)) e)))
 
 enum-known-host-2 : tie.Need-enum-known-host-2

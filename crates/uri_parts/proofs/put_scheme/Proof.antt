@@ -24,7 +24,8 @@ enum-known-scheme-2 : tie.Need-enum-known-scheme-2
 enum-known-scheme-2 c = search needs
 
 put-part-requires : tie.Need-put-part-requires
-put-part-requires c κs = let e = ap schemeOf (c .before .before .scheme2 .given .1) in
+put-part-requires c κs =
+    let e = ap schemeOf (c .before .before .scheme2 .given .1) in
     let h = rw e at (c .before .before .before .before .before .before .pre .0) in
     (h, omega (arith, c .before .before .before .before .before .before .pre .1, ap length (scheme-name (now (c .before .before .before .before .before .before .args .s)) e), length-part (now (c .before .before .before .before .before .before .args .s)) _ _ h))
 
