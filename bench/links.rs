@@ -23,14 +23,19 @@ const TRUE: u8 = 0xf5;
 const WORDS: [&str; 12] = [".well-known", "core", "position", "gnss", "1", "bow", "stern", "raw", "fix-2d", "λιμάνι", "距離", "Schleppzug-Nr.7"];
 const NAMES: [&str; 8] = ["tug", "harbour", "example", "org", "node-17", "r2d2", "antwerp", "local"];
 
-fn words(random: &mut Random, most: usize) -> Vec<u8> {
+// An array of so many of these texts.
+fn texts(random: &mut Random, of: &[&str], n: usize) -> Vec<u8> {
     let mut out = Vec::new();
-    let n = random.below(most + 1);
     head(&mut out, 4, n as u64);
     for _ in 0..n {
-        text(&mut out, WORDS[random.below(WORDS.len())]);
+        text(&mut out, of[random.below(of.len())]);
     }
     out
+}
+
+fn words(random: &mut Random, most: usize) -> Vec<u8> {
+    let n = random.below(most + 1);
+    texts(random, &WORDS, n)
 }
 
 fn parameters(random: &mut Random) -> Vec<u8> {
@@ -200,21 +205,13 @@ pub fn pairs(n: usize) -> Vec<(Vec<u8>, Vec<u8>)> {
 pub fn escaped(n: usize) -> Vec<Vec<u8>> {
     const WORDS: [&str; 8] = ["λιμάνι", "距離", "Ψαρόβαρκα", "порт", "港湾", "größe", "שרטון", "曳船 7"];
     let mut random = Random::new();
-    let texts = |random: &mut Random, n: usize| {
-        let mut out = Vec::new();
-        head(&mut out, 4, n as u64);
-        for _ in 0..n {
-            text(&mut out, WORDS[random.below(WORDS.len())]);
-        }
-        out
-    };
     (0..n)
         .map(|_| {
             let labels = 1 + random.below(2);
-            let opening = vec![vec![0x20], texts(&mut random, labels)];
+            let opening = vec![vec![0x20], texts(&mut random, &WORDS, labels)];
             let segments = 1 + random.below(4);
-            let path = texts(&mut random, segments);
-            let query = (random.below(10) < 3).then(|| texts(&mut random, 1));
+            let path = texts(&mut random, &WORDS, segments);
+            let query = (random.below(10) < 3).then(|| texts(&mut random, &WORDS, 1));
             joined(opening, [Some(path), query, None])
         })
         .collect()
@@ -236,9 +233,34 @@ pub fn addressed(n: usize) -> Vec<Vec<u8>> {
         .collect()
 }
 
-// An absolute link of at most so many bytes, and few less: a path of segments of 7 bytes, or of 32 longer ones.
+// So many absolute links with an IPv4 address and a path of so many segments.
+pub fn segmented(n: usize, segments: usize) -> Vec<Vec<u8>> {
+    let mut random = Random::new();
+    (0..n)
+        .map(|_| {
+            let opening = vec![vec![0x20], vec![0x81, 0x44, 198, 51, 100, 1]];
+            joined(opening, [Some(texts(&mut random, &WORDS, segments)), None, None])
+        })
+        .collect()
+}
+
+// So many absolute links with a host of so many labels and a short path.
+pub fn named(n: usize, labels: usize) -> Vec<Vec<u8>> {
+    let mut random = Random::new();
+    (0..n)
+        .map(|_| {
+            let opening = vec![vec![0x20], texts(&mut random, &NAMES, labels)];
+            joined(opening, [Some(words(&mut random, 2)), None, None])
+        })
+        .collect()
+}
+
+// An absolute link of at most so many bytes, and few less: no path at 8 bytes, else one of segments of 7 bytes, or of 32 longer ones.
 pub fn sized(size: usize) -> Vec<u8> {
     let opening = vec![vec![0x20], vec![0x81, 0x44, 198, 51, 100, 1]];
+    if size == 8 {
+        return joined(opening, [None, None, None]);
+    }
     let left = size - 10;
     let count = (left / 8).clamp(1, 32);
     let mut path = Vec::new();

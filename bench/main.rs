@@ -13,6 +13,7 @@ mod address;
 mod escape;
 mod items;
 mod links;
+mod options;
 mod print;
 mod read;
 mod resolve;
@@ -104,7 +105,7 @@ pub fn compare<I, O>(name: &str, sizes: &[usize], inputs: impl Fn(usize) -> Vec<
 fn main() {
     black_box(placement as *const ());
     let names: Vec<String> = std::env::args().skip(1).collect();
-    let parts: [(&str, fn()); 8] = [
+    let parts: [(&str, fn()); 9] = [
         ("utf8", utf8::measure),
         ("items", items::measure),
         ("escape", escape::measure),
@@ -113,6 +114,7 @@ fn main() {
         ("write", write::measure),
         ("resolve", resolve::measure),
         ("print", print::measure),
+        ("options", options::measure),
     ];
     for (name, measure) in parts {
         if names.is_empty() || names.iter().any(|n| n == name) {

@@ -3,10 +3,12 @@
 mod components;
 mod damage;
 mod item;
+mod link;
 mod pairs;
 mod printing;
 mod random;
 mod reference;
+mod requests;
 mod words;
 
 use crate::lines::{hex, MAX_LINE, MAX_ROOM};
@@ -33,12 +35,13 @@ impl Generator {
                 let request = random.pick(&DAMAGED)(random);
                 words::damaged(random, &request)
             }
-            50..210 => printing::text_request(random),
-            210..300 => printing::same_request(random),
-            300..470 => components::request(random),
-            470..640 => pairs::resolve_request(random),
-            640..715 => pairs::authority_request(random),
-            715..805 => segment_request(random),
+            50..200 => requests::options_request(random),
+            200..335 => printing::text_request(random),
+            335..415 => printing::same_request(random),
+            415..560 => components::request(random),
+            560..705 => pairs::resolve_request(random),
+            705..765 => pairs::authority_request(random),
+            765..840 => segment_request(random),
             _ => format!("read {}", hex(&input(random).bytes)),
         };
         line.into_bytes()
@@ -46,13 +49,14 @@ impl Generator {
 }
 
 /// The requests whose words are damaged.
-const DAMAGED: [fn(&mut Random) -> String; 6] = [
+const DAMAGED: [fn(&mut Random) -> String; 7] = [
     components::request,
     components::request,
     pairs::resolve_request,
     pairs::authority_request,
     printing::text_request,
     printing::same_request,
+    requests::options_request,
 ];
 
 fn segment_request(random: &mut Random) -> String {
@@ -116,7 +120,7 @@ fn no_request(random: &mut Random) -> String {
     let word = hex(&bytes);
     let no_word = no_bytes(random, &bytes);
     let n = random.number();
-    match random.below(52) {
+    match random.below(66) {
         0 => String::new(),
         1 => " ".to_string(),
         2 => "read".to_string(),
@@ -143,6 +147,7 @@ fn no_request(random: &mut Random) -> String {
         23 => random
             .pick(&[
                 "resolve", "resolve ", "authority", "authority ", "text", "text ", "same", "same ",
+                "options", "options ",
             ])
             .to_string(),
         24 => format!("resolve {word} 80"),
@@ -171,6 +176,23 @@ fn no_request(random: &mut Random) -> String {
         47 => format!("same {word} 80 80"),
         48 => format!("same {no_word} 80"),
         49 => format!("same {word} {no_word}"),
+        50 => format!("options 9 {word}"),
+        51 => format!("options 9 {word} 7f000001"),
+        52 => format!("options 9 {word} 7f000001 "),
+        53 => format!("options {word} 7f000001 80"),
+        54 => format!("options 9 {word}  80"),
+        55 => format!("options 9 {word} 80"),
+        56 => format!("options 9 {word} 7f000001 80 80"),
+        57 => format!("options 9 {word} 7f000001 80 "),
+        58 => format!("options 9 {no_word} 7f000001 80"),
+        59 => format!("options 9 {word} {no_word} 80"),
+        60 => format!("options 9 {word} 7f000001 {}", 65_536 + n / 2),
+        61 => {
+            let no_port = random.pick(&["65536", "065536", "-", "-1", "+1", "1a", "0x50"]);
+            format!("options 9 {word} 7f000001 {no_port}")
+        }
+        62 => format!("options 9 {word} 7f00000 80"),
+        63 => format!("options {} {word} 7f000001 80", 1 + MAX_ROOM as u64 + n / 2),
         _ if random.chance(80) => word,
         _ => {
             let length = (MAX_LINE + 1 - "read ".len()) / 2 + random.index(3);

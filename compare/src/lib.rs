@@ -3,6 +3,8 @@
 mod encoder;
 pub mod generate;
 pub mod lines;
+pub mod meant;
+pub mod options;
 pub mod reader;
 pub mod resolver;
 pub mod uri_text;

@@ -2,6 +2,8 @@
 
 mod components;
 
+use crate::meant::{self, meant};
+use crate::options::options;
 use crate::reader::read;
 use crate::resolver::resolve;
 use crate::uri_text::{longest, uri_text};
@@ -22,11 +24,12 @@ type Answer = Result<String, &'static str>;
 type Call = fn(&mut Words) -> Answer;
 
 /// The calls known here. A new call is a function and a row.
-const CALLS: [(&str, Call); 7] = [
+const CALLS: [(&str, Call); 8] = [
     ("read", read_call),
     ("write", write_call),
     ("resolve", resolve_call),
     ("text", text_call),
+    ("options", options_call),
     ("same", same_call),
     ("segment", segment_call),
     ("authority", authority_call),
@@ -96,6 +99,48 @@ fn text_call(words: &mut Words) -> Answer {
     let room = words.room()?;
     let input = words.bytes()?;
     Ok(written(room, |room| uri_text(&input, room)))
+}
+
+fn options_call(words: &mut Words) -> Answer {
+    let request = OptionsRequest::of(words)?;
+    Ok(written(request.room, |room| {
+        options(&request.input, &request.address, request.port, room)
+    }))
+}
+
+/// The options that an `options` request means, as words of `NUMBER:HEX`; or `? ` and why there are none.
+pub fn meant_by(line: &[u8]) -> String {
+    options_meant(line).unwrap_or_else(|why| format!("? {why}"))
+}
+
+fn options_meant(line: &[u8]) -> Answer {
+    let mut words = Words { rest: Some(line) };
+    if !words.next_is("options") {
+        return Err("another call");
+    }
+    let request = OptionsRequest::of(&mut words)?;
+    words.end()?;
+    let options = meant(&request.input, &request.address, request.port);
+    Ok(meant::words(&options.ok_or("refused")?))
+}
+
+/// The words of an `options` request.
+struct OptionsRequest {
+    room: usize,
+    input: Vec<u8>,
+    address: Vec<u8>,
+    port: u16,
+}
+
+impl OptionsRequest {
+    fn of(words: &mut Words) -> Result<Self, &'static str> {
+        Ok(OptionsRequest {
+            room: words.room()?,
+            input: words.bytes()?,
+            address: words.bytes()?,
+            port: words.port()?,
+        })
+    }
 }
 
 fn same_call(words: &mut Words) -> Answer {
@@ -203,6 +248,10 @@ impl<'a> Words<'a> {
             room @ 0..=MAX_ROOM => Ok(room),
             _ => Err("the room is too long"),
         }
+    }
+
+    fn port(&mut self) -> Result<u16, &'static str> {
+        u16::try_from(self.number()?).map_err(|_| "no port")
     }
 
     fn end(&self) -> Result<(), &'static str> {

@@ -16,7 +16,9 @@ const COUNT: u64 = 300_000;
 const USAGE: &str = "usage: compare [SEED [COUNT]]
        compare vectors REQUESTS ANSWERS
        compare round-trip REQUESTS
-       compare answer";
+       compare accepted CALL SEED COUNT
+       compare answer
+       compare meant";
 
 fn main() -> ExitCode {
     let words: Vec<String> = env::args().skip(1).collect();
@@ -32,7 +34,9 @@ fn main() -> ExitCode {
 
 fn run(words: &[&str]) -> Result<(), String> {
     match *words {
-        ["answer"] => answer_input().map_err(|e| e.to_string()),
+        ["answer"] => each_line(lines::answer).map_err(|e| e.to_string()),
+        ["meant"] => each_line(lines::meant_by).map_err(|e| e.to_string()),
+        ["accepted", call, seed, count] => tell_accepted(call, number(seed)?, number(count)?),
         ["vectors", requests, answers] => compare_vectors(requests, answers),
         ["round-trip", requests] => compare_round_trip(requests),
         [] => compare_generated(SEED, COUNT),
@@ -46,13 +50,26 @@ fn number(word: &str) -> Result<u64, String> {
     word.parse().map_err(|_| USAGE.to_string())
 }
 
-/// Answers standard input as the Rust would.
-fn answer_input() -> io::Result<()> {
+/// Answers each line of standard input.
+fn each_line(answer: fn(&[u8]) -> String) -> io::Result<()> {
     let mut output = BufWriter::new(io::stdout().lock());
     for line in io::stdin().lock().split(b'\n') {
-        writeln!(output, "{}", lines::answer(&line?))?;
+        writeln!(output, "{}", answer(&line?))?;
     }
     output.flush()
+}
+
+/// Prints `count` requests of a call, made from `seed`, that the Rust answers with 0.
+fn tell_accepted(call: &str, seed: u64, count: u64) -> Result<(), String> {
+    let call = lines::call(call.as_bytes()).ok_or(USAGE)?;
+    let mut output = BufWriter::new(io::stdout().lock());
+    Generator::new(seed)
+        .filter(|request| lines::call(request) == Some(call))
+        .filter(|request| lines::answer(request).starts_with('0'))
+        .take(count as usize)
+        .try_for_each(|request| output.write_all(&[&request[..], b"\n"].concat()))
+        .and_then(|()| output.flush())
+        .map_err(|e| e.to_string())
 }
 
 /// Compares the answers to `count` requests made from `seed`.

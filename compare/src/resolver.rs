@@ -9,7 +9,8 @@ use crate::encoder::{items_after, Buffer, Encoder, Meter, Put, NEGATIVE, NULL, T
 use crate::reader::{read, Discard, Opening, Reference, Scheme, MAX_INPUT, MAX_SEGMENTS};
 use crate::writer::ROOM;
 
-/// The number of a base that the reader refuses or that is not absolute, and of a text asked of a reference that is not absolute.
+/// The number of a base that the reader refuses or that is not absolute, and of a text or options asked of a reference that is not
+/// absolute.
 pub const BASE: u8 = 8;
 
 /// The number of a result over its sizes.

@@ -220,20 +220,20 @@ fn joined(to: &mut impl Print, place: Place, texts: &[&str], first: &[u8], betwe
 }
 
 /// A short text, kept in place. It panics where more than `MAX` bytes are added.
-struct Short<const MAX: usize> {
+pub(crate) struct Short<const MAX: usize> {
     bytes: [u8; MAX],
     length: usize,
 }
 
 impl<const MAX: usize> Short<MAX> {
-    fn new() -> Self {
+    pub(crate) fn new() -> Self {
         Short {
             bytes: [0; MAX],
             length: 0,
         }
     }
 
-    fn text(&self) -> &[u8] {
+    pub(crate) fn text(&self) -> &[u8] {
         &self.bytes[..self.length]
     }
 
@@ -252,7 +252,7 @@ impl<const MAX: usize> Short<MAX> {
     }
 
     /// 4 or 16 bytes.
-    fn address(&mut self, address: &[u8]) {
+    pub(crate) fn address(&mut self, address: &[u8]) {
         match address.try_into() {
             Ok(address) => self.ipv6(address),
             Err(_) => self.ipv4(address),

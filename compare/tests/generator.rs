@@ -2,6 +2,7 @@
 
 use compare::generate::Generator;
 use compare::lines;
+use compare::options::{options, ENOUGH};
 use compare::reader::{read, Discard, Host, Opening, Reference, Scheme, Texts};
 use compare::resolver::resolve;
 use compare::uri_text::{longest, uri_text};
@@ -76,6 +77,12 @@ fn every_number_comes_often() {
         ("authority", &["0", "1", "2", "3", "4", "5", "6", "7", "8"]),
         ("text", &["0", "1", "2", "3", "4", "5", "6", "7", "8", "10"]),
         ("same", &["0", "1", "2", "3", "4", "5", "6", "7", "8"]),
+        (
+            "options",
+            &[
+                "0", "1", "2", "3", "4", "5", "6", "7", "8", "10", "11", "12",
+            ],
+        ),
     ] {
         let words = &words[call];
         let all: usize = words.values().sum();
@@ -947,4 +954,370 @@ fn one_or_both_of_a_pair_are_refused() {
     let both = numbers.map(|first| numbers.map(|second| often(first, second)));
     let both: usize = both.as_flattened().iter().sum();
     assert!(both >= 50, "{both}");
+}
+
+/// A request for options: the words, and the length of the options or the number with room enough.
+struct Asked {
+    room: usize,
+    input: Vec<u8>,
+    address: Vec<u8>,
+    port: u16,
+    outcome: Result<usize, u8>,
+}
+
+fn options_requests() -> Vec<Asked> {
+    requests_of("options")
+        .map(|(words, _)| {
+            let [input, address] = [unhex(words[2]), unhex(words[3])];
+            let port = words[4].parse().expect("a port");
+            Asked {
+                room: room(&words),
+                outcome: options(&input, &address, port, &mut [0; ENOUGH]),
+                input,
+                address,
+                port,
+            }
+        })
+        .collect()
+}
+
+/// A link that has options or none, and its destination.
+struct Link<'a> {
+    reference: Reference<'a>,
+    address: &'a [u8],
+    port: u16,
+}
+
+impl<'a> Link<'a> {
+    /// `None` where it is refused.
+    fn of(asked: &'a Asked) -> Option<Self> {
+        asked.outcome.ok()?;
+        Some(Link {
+            reference: read(&asked.input).ok()?,
+            address: &asked.address,
+            port: asked.port,
+        })
+    }
+
+    fn default_port(&self) -> u16 {
+        match scheme(&self.reference) {
+            Some(Scheme::Number(0 | 6)) => 5683,
+            Some(Scheme::Number(1 | 7)) => 5684,
+            Some(Scheme::Number(8)) => 80,
+            _ => 443,
+        }
+    }
+
+    /// The port, or else the default one.
+    fn own_port(&self) -> u16 {
+        port(&self.reference).unwrap_or(self.default_port())
+    }
+
+    fn own_address(&self) -> &'a [u8] {
+        address(&self.reference)
+    }
+
+    fn has_host(&self) -> bool {
+        self.own_address() != self.address
+    }
+
+    fn has_port(&self) -> bool {
+        self.own_port() != self.port
+    }
+
+    fn has_path(&self) -> bool {
+        !self.reference.segments().is_empty()
+    }
+
+    fn has_query(&self) -> bool {
+        self.reference.query.is_some()
+    }
+
+    /// Whether there are options of the host, the port, the path and the query.
+    fn has(&self) -> [bool; 4] {
+        [
+            self.has_host(),
+            self.has_port(),
+            self.has_path(),
+            self.has_query(),
+        ]
+    }
+
+    /// How many bytes of the addresses differ; `None` where they are not of one length.
+    fn differences(&self) -> Option<usize> {
+        let [own, other] = [self.own_address(), self.address];
+        let differ = own.iter().zip(other).filter(|(own, other)| own != other);
+        (own.len() == other.len()).then(|| differ.count())
+    }
+}
+
+type LinkProperty = (&'static str, fn(&Link) -> bool);
+
+#[test]
+fn every_sort_of_link_is_asked() {
+    let properties: [LinkProperty; 38] = [
+        ("the same address of 4 bytes", |l| {
+            l.differences() == Some(0) && l.address.len() == 4
+        }),
+        ("the same address of 16 bytes", |l| {
+            l.differences() == Some(0) && l.address.len() == 16
+        }),
+        ("4 bytes, one differs", |l| {
+            l.differences() == Some(1) && l.address.len() == 4
+        }),
+        ("16 bytes, one differs", |l| {
+            l.differences() == Some(1) && l.address.len() == 16
+        }),
+        ("the first byte differs", |l| {
+            l.differences() == Some(1) && l.address[0] != l.own_address()[0]
+        }),
+        ("the last byte differs", |l| {
+            l.differences() == Some(1) && l.address.last() != l.own_address().last()
+        }),
+        ("4 bytes to a mapped address", |l| {
+            let mapped = [&[0; 10][..], &[0xFF; 2], l.own_address()].concat();
+            l.own_address().len() == 4 && l.address == mapped
+        }),
+        ("16 bytes to their last 4", |l| {
+            l.own_address().len() == 16 && l.own_address().ends_with(l.address) && l.has_host()
+        }),
+        ("4 bytes to 16 that begin with them", |l| {
+            l.own_address().len() == 4 && l.address.starts_with(l.own_address()) && l.has_host()
+        }),
+        ("labels to 4 bytes", |l| {
+            l.own_address().is_empty() && l.address.len() == 4
+        }),
+        ("labels to 16 bytes", |l| {
+            l.own_address().is_empty() && l.address.len() == 16
+        }),
+        ("the default port written, the same", |l| {
+            has_default_port(&l.reference) && !l.has_port()
+        }),
+        ("the default port written, another", |l| {
+            has_default_port(&l.reference) && l.has_port()
+        }),
+        ("the default port left off, the same", |l| {
+            port(&l.reference).is_none() && !l.has_port()
+        }),
+        ("the default port left off, another", |l| {
+            port(&l.reference).is_none() && l.has_port()
+        }),
+        ("another port, to the default one", |l| {
+            l.own_port() != l.default_port() && l.port == l.default_port()
+        }),
+        ("another port, the same", |l| {
+            l.own_port() != l.default_port() && !l.has_port()
+        }),
+        ("the port one more", |l| {
+            l.own_port().checked_add(1) == Some(l.port)
+        }),
+        ("the port one less", |l| {
+            l.port.checked_add(1) == Some(l.own_port())
+        }),
+        ("ports with the same low byte", |l| {
+            l.has_port() && l.own_port() % 256 == l.port % 256
+        }),
+        ("ports with the same high byte", |l| {
+            l.has_port() && l.own_port() / 256 == l.port / 256
+        }),
+        ("path unset", |l| l.reference.path.is_none()),
+        ("empty path", |l| path(&l.reference) == Some(&[])),
+        ("one empty segment", |l| path(&l.reference) == Some(&[""])),
+        ("one empty segment and nothing else", |l| {
+            path(&l.reference) == Some(&[""]) && l.has() == [false; 4]
+        }),
+        ("one empty segment and a query", |l| {
+            path(&l.reference) == Some(&[""]) && l.has() == [false, false, false, true]
+        }),
+        ("two empty segments", |l| {
+            path(&l.reference) == Some(&["", ""])
+        }),
+        ("32 segments", |l| l.reference.segments().len() == 32),
+        ("one empty parameter", |l| {
+            l.reference.query.as_deref() == Some(&[""])
+        }),
+        ("16 parameters", |l| texts(&l.reference.query).len() == 16),
+        ("8 labels", |l| labels(&l.reference).len() == 8),
+        ("a byte that a URI would escape", |l| {
+            name_length(&l.reference) > 0 && labels(&l.reference).concat().contains(['%', '/', ' '])
+        }),
+        ("a segment of 23", |l| {
+            has_length(l.reference.segments(), 23)
+        }),
+        ("a segment of 24", |l| {
+            has_length(l.reference.segments(), 24)
+        }),
+        ("a parameter of 23", |l| {
+            has_length(texts(&l.reference.query), 23)
+        }),
+        ("a parameter of 24", |l| {
+            has_length(texts(&l.reference.query), 24)
+        }),
+        ("labels of 63 and a further one", |l| {
+            name_length(&l.reference) > 63 && has_length(labels(&l.reference), 63)
+        }),
+        ("segments of over 900 bytes", |l| {
+            l.reference.segments().concat().len() > 900
+        }),
+    ];
+    let requests = options_requests();
+    let links: Vec<_> = requests.iter().filter_map(Link::of).collect();
+    let all = links.len();
+    let reached = |name: String, holds: &dyn Fn(&Link) -> bool| {
+        let often = links.iter().filter(|link| holds(link)).count();
+        assert!(often >= 5, "{name}: {often} times of {all}");
+    };
+    for (name, holds) in properties {
+        reached(name.to_string(), &holds);
+    }
+    for number in [0, 1, 6, 7, 8, 9] {
+        reached(format!("scheme {number}"), &|l| {
+            scheme(&l.reference) == Some(Scheme::Number(number))
+        });
+    }
+    for number in [0, 1, 255, 256, 65_535] {
+        reached(format!("port {number}"), &|l| {
+            port(&l.reference) == Some(number) && l.has_port()
+        });
+        reached(format!("to port {number}"), &|l| {
+            l.port == number && l.has_port()
+        });
+        reached(format!("port {number}, the same"), &|l| {
+            port(&l.reference) == Some(number) && !l.has_port()
+        });
+    }
+    for length in [0, 1, 12, 13, 14, 254, 255] {
+        reached(format!("a segment of {length}"), &|l| {
+            has_length(l.reference.segments(), length)
+        });
+        reached(format!("a parameter of {length}"), &|l| {
+            has_length(texts(&l.reference.query), length)
+        });
+        if length > 0 {
+            reached(format!("a name of {length}"), &|l| {
+                name_length(&l.reference) == length
+            });
+        }
+    }
+    for length in [12, 13, 14] {
+        reached(format!("an address text of {length}"), &|l| {
+            let octets: Vec<_> = l.own_address().iter().map(u8::to_string).collect();
+            octets.len() == 4 && l.has_host() && octets.join(".").len() == length
+        });
+    }
+    // All combinations of options, and with them each difference of two numbers.
+    for bits in 0..16 {
+        let has = [1, 2, 4, 8].map(|bit| bits & bit != 0);
+        reached(format!("{has:?}"), &|l| l.has() == has);
+        if has[3] {
+            reached(format!("{has:?}, a long parameter"), &|l| {
+                l.has() == has && texts(&l.reference.query)[0].len() > 12
+            });
+        }
+    }
+}
+
+fn has_length(texts: &[&str], length: usize) -> bool {
+    texts.iter().any(|text| text.len() == length)
+}
+
+type AskedProperty = (&'static str, fn(&Asked) -> bool);
+
+#[test]
+fn rooms_and_refusals_of_options() {
+    let properties: [AskedProperty; 21] = [
+        ("room exact", |a| a.outcome == Ok(a.room)),
+        ("room one short", |a| a.outcome == Ok(a.room + 1)),
+        ("room one over", |a| {
+            a.room > 0 && a.outcome == Ok(a.room - 1)
+        }),
+        ("no room", |a| {
+            a.outcome.is_ok_and(|length| length > 0) && a.room == 0
+        }),
+        ("no options, no room", |a| a.outcome == Ok(0) && a.room == 0),
+        ("no options, some room", |a| {
+            a.outcome == Ok(0) && a.room > 0
+        }),
+        ("largest room", |a| a.outcome.is_ok() && a.room == 16_384),
+        ("over 1,024 bytes", |a| {
+            a.outcome.is_ok_and(|length| length > 1024)
+        }),
+        ("an input of 1,024 bytes", |a| {
+            a.outcome.is_ok() && a.input.len() == 1024
+        }),
+        ("11, no room", |a| a.outcome == Err(11) && a.room == 0),
+        ("8, no room", |a| a.outcome == Err(8) && a.room == 0),
+        ("5, no room", |a| a.outcome == Err(5) && a.room == 0),
+        ("12, no room", |a| a.outcome == Err(12) && a.room == 0),
+        ("12 before 1 to 7", |a| {
+            a.outcome == Err(12) && read(&a.input).is_err()
+        }),
+        ("12 before 8", |a| {
+            a.outcome == Err(12) && read(&a.input).is_ok_and(|r| r.absolute().is_none())
+        }),
+        ("12 before 11", |a| {
+            a.outcome == Err(12)
+                && read(&a.input).is_ok_and(|r| r.absolute().is_some() && r.fragment.is_some())
+        }),
+        ("8 before 11", |a| {
+            a.outcome == Err(8) && read(&a.input).is_ok_and(|r| r.fragment.is_some())
+        }),
+        ("a discard", |a| {
+            read(&a.input).is_ok_and(|r| matches!(r.opening, Opening::Discard(_)))
+        }),
+        ("a scheme text, no fragment", |a| {
+            a.outcome == Err(11) && read(&a.input).is_ok_and(|r| r.fragment.is_none())
+        }),
+        ("an empty fragment", |a| {
+            a.outcome == Err(11)
+                && read(&a.input).is_ok_and(|r| scheme_length(&r) == 0 && r.fragment == Some(""))
+        }),
+        ("a fragment", |a| {
+            a.outcome == Err(11)
+                && read(&a.input).is_ok_and(|r| {
+                    scheme_length(&r) == 0 && r.fragment.is_some_and(|f| !f.is_empty())
+                })
+        }),
+    ];
+    let requests = options_requests();
+    for (name, holds) in properties {
+        let often = requests.iter().filter(|request| holds(request)).count();
+        assert!(often >= 5, "{name}: {often} times of {}", requests.len());
+    }
+    for length in [0, 1, 3, 5, 15, 17] {
+        let often = requests.iter().filter(|a| a.address.len() == length);
+        assert!(often.count() >= 5, "an address of {length} bytes");
+    }
+}
+
+/// Lines of `options` that are no requests: by a word missing, one too many, a port over its size, and bytes that are none.
+#[test]
+fn some_lines_of_options_are_no_requests() {
+    let lines: Vec<Words> = ANSWERED
+        .iter()
+        .filter(|(request, _)| lines::call(request) == Some("options"))
+        .filter(|(_, answer)| answer.starts_with("? "))
+        .map(|(request, _)| str::from_utf8(request).expect("ASCII").split(' ').collect())
+        .collect();
+    let reached = |name: &str, holds: fn(&[&str]) -> bool| {
+        let often = lines.iter().filter(|words| holds(words)).count();
+        assert!(often >= 5, "{name}: {often} times of {}", lines.len());
+    };
+    reached("a word missing", |words| words.len() < 5);
+    reached("a word too many", |words| words.len() > 5);
+    reached("port 65536", |words| {
+        words.len() == 5 && words[4] == "65536"
+    });
+    reached("a large port", |words| {
+        words.len() == 5 && words[4].len() > 12
+    });
+    reached("an input of odd digits", |words| {
+        words.len() == 5 && words[2].len() % 2 == 1
+    });
+    reached("an address of odd digits", |words| {
+        words.len() == 5 && words[3].len() % 2 == 1
+    });
+    reached("no address", |words| {
+        words.len() == 5 && words[3].is_empty()
+    });
 }

@@ -1,6 +1,6 @@
 //! Requests, answers, and lines that are no requests.
 
-use compare::lines::{answer, call, write_from_answer, write_from_itself, MAX_LINE};
+use compare::lines::{answer, call, meant_by, write_from_answer, write_from_itself, MAX_LINE};
 use compare::views::segment;
 
 #[test]
@@ -119,6 +119,60 @@ fn text_answers_what_it_wrote() {
     ];
     for (request, expected) in cases {
         assert_eq!(answer(request.as_bytes()), expected, "{request}");
+    }
+}
+
+#[test]
+fn options_answers_what_it_wrote() {
+    let cases = [
+        ("options 2 8220816168 7f000001 5683", "0 2 3168 kept"),
+        ("options 1 8220816168 7f000001 5683", "10 0 - kept"),
+        ("options 0 8220816168 7f000001 5683", "10 0 - kept"),
+        (
+            "options 00016384 8420816120f68160 7f000001 0065535",
+            "0 6 312042163380 kept",
+        ),
+        ("options 0 822081447f000001 7f000001 5683", "0 0 - kept"),
+        ("options 9 822082447f00000100 7f000001 5683", "0 1 70 kept"),
+        ("options 99 8220816168 7f0000 5683", "12 0 - kept"),
+        ("options 99 8220816168 - 5683", "12 0 - kept"),
+        ("options 0 - 7f 0", "12 0 - kept"),
+        ("options 0 - 7f000001 0", "1 0 - kept"),
+        ("options 0 80 7f000001 0", "8 0 - kept"),
+        ("options 0 82616181 7f000001 0", "1 0 - kept"),
+        ("options 0 8261618161 7f000001 0", "1 0 - kept"),
+        ("options 0 826161816168 7f000001 0", "11 0 - kept"),
+        ("options 99 8520816168f6f660 7f000001 0", "11 0 - kept"),
+        ("options 99 822081616800 7f000001 0", "7 0 - kept"),
+    ];
+    for (request, expected) in cases {
+        assert_eq!(answer(request.as_bytes()), expected, "{request}");
+    }
+    // An address as long as a line can hold.
+    let request = format!("options 9 80 {} 0", "00".repeat(32_000));
+    assert_eq!(answer(request.as_bytes()), "12 0 - kept");
+}
+
+#[test]
+fn meant_options_are_words() {
+    let cases = [
+        ("options 0 8420826168006160 7f000001 5683", "? refused"),
+        (
+            "options 0 84208261680082606161816162 7f000001 5683",
+            "3:68 7: 11: 11:61 15:62",
+        ),
+        (
+            "options 0 8220814400000000 7f000001 443",
+            "3:302e302e302e30 7:1633",
+        ),
+        ("options 0 822081447f000001 7f000001 5683", "-"),
+        ("options 0 80 7f000001 5683", "? refused"),
+        ("options 0 8220816168 7f000001 65536", "? no port"),
+        ("options 0 8220816168 7f000001 1 1", "? a word too many"),
+        ("text 0 8220816168", "? another call"),
+    ];
+    for (request, expected) in cases {
+        assert_eq!(meant_by(request.as_bytes()), expected, "{request}");
     }
 }
 
@@ -300,6 +354,36 @@ fn no_requests() {
         "same 80 8",
         "same 80 8F",
         "same 9 80 80",
+        "options",
+        "options ",
+        "options 9",
+        "options 9 ",
+        "options 9 80",
+        "options 9 80 7f000001",
+        "options 9 80 7f000001 ",
+        "options 9 80 7f000001 80 ",
+        "options 9 80 7f000001 80 80",
+        "options 9 80  80",
+        "options 9  7f000001 80",
+        "options  80 7f000001 80",
+        "options - 80 7f000001 80",
+        "options 16385 80 7f000001 80",
+        "options 18446744073709551616 80 7f000001 80",
+        "options 9 8 7f000001 80",
+        "options 9 8F 7f000001 80",
+        "options 9 80 7f00000 80",
+        "options 9 80 7F000001 80",
+        "options 9 80 7f000001 65536",
+        "options 9 80 7f000001 131072",
+        "options 9 80 7f000001 18446744073709551615",
+        "options 9 80 7f000001 18446744073709551616",
+        "options 9 80 7f000001 -",
+        "options 9 80 7f000001 -1",
+        "options 9 80 7f000001 +1",
+        "options 9 80 7f000001 1a",
+        "options 9 80 - 65536",
+        "option 9 80 7f000001 80",
+        "Options 9 80 7f000001 80",
         "authority",
         "authority ",
         "authority 80",
@@ -333,6 +417,7 @@ fn known_calls() {
     assert_eq!(call(b"resolve 0 - -"), Some("resolve"));
     assert_eq!(call(b"authority - -"), Some("authority"));
     assert_eq!(call(b"text 0 -"), Some("text"));
+    assert_eq!(call(b"options 0 - - 0"), Some("options"));
     assert_eq!(call(b"same - -"), Some("same"));
     assert_eq!(call(b"reads 80"), None);
     assert_eq!(call(b""), None);

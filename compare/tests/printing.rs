@@ -2,12 +2,15 @@
 //! references have one text exactly where they are the same.
 
 mod encode;
+#[path = "encode/not_absolute.rs"]
+mod not_absolute;
 
 use compare::generate::Generator;
 use compare::reader::{read, Host, Scheme};
 use compare::resolver::resolve;
 use compare::uri_text::{longest, uri_text};
 use encode::{array, bytes, head, text_of, texts};
+use not_absolute::NOT_ABSOLUTE;
 use std::collections::{BTreeMap, BTreeSet};
 use std::net::{Ipv4Addr, Ipv6Addr};
 
@@ -321,28 +324,7 @@ fn every_group() {
 
 #[test]
 fn refusals_in_their_order() {
-    for (hex, number) in [
-        ("", 1),
-        ("82 20", 1),
-        ("81 00", 2),
-        ("82 20 F6", 2),
-        ("82 20 81 78 01 61", 3),
-        ("82 20 80", 4),
-        ("82 20 81 61 C3", 5),
-        ("82 20 81 61 41", 6),
-        ("82 22 81 61 68", 6),
-        ("82 20 84 61 31 61 32 61 33 61 34", 6),
-        ("82 64 636F6170 81 61 68", 6),
-        ("82 20 81 61 68 00", 7),
-        ("80", 8),
-        ("81 F5", 8),
-        ("82 01 81 61 61", 8),
-        ("82 F6 81 61 68", 8),
-        ("84 F6 81 44 01020304 F6 81 60", 8),
-        // What is not absolute, and has a fault.
-        ("80 00", 7),
-        ("82 F6 81 61 41", 6),
-    ] {
+    for &(hex, number) in NOT_ABSOLUTE {
         refused(hex, number);
         assert_eq!(uri_text(&bytes(hex), &mut []), Err(number), "{hex}");
     }

@@ -240,7 +240,7 @@ fn rooms() {
 
 #[test]
 fn what_is_read_is_written_again() {
-    let requests = Generator::new(3).take(8000);
+    let requests = Generator::new(3).take(10_000);
     let answers = requests.filter_map(|request| {
         let word = String::from_utf8(request.strip_prefix(b"read ")?.to_vec()).ok()?;
         let answer = lines::answer(&request);

@@ -65,7 +65,7 @@ const DECIMALS: [&str; 12] = [
     "0", "1", "9", "10", "19", "99", "100", "199", "200", "249", "250", "255",
 ];
 
-const KNOWN_SCHEMES: [u64; 6] = [0, 1, 6, 7, 8, 9];
+pub const KNOWN_SCHEMES: [u64; 6] = [0, 1, 6, 7, 8, 9];
 
 const UNKNOWN_SCHEMES: [u64; 15] = [
     2,
@@ -336,6 +336,12 @@ impl<'r> Maker<'r> {
     fn long_name(&mut self) -> Vec<Item> {
         let total = self.random.pick(&[253, 254, 254, 255, 255, 255, 256, 257]);
         let count = 5 + self.random.index(4);
+        let labels = self.name(total, count);
+        labels.into_iter().map(Item::Text).collect()
+    }
+
+    /// So many labels of `total` bytes together, their dots counted, which so many labels can have.
+    pub fn name(&mut self, total: usize, count: usize) -> Vec<Vec<u8>> {
         let mut lengths = vec![1; count];
         let mut left = total - (2 * count - 1);
         while left > 0 {
@@ -348,7 +354,7 @@ impl<'r> Maker<'r> {
         }
         lengths
             .into_iter()
-            .map(|length| Item::Text(lower_case(self.text_of(length))))
+            .map(|length| lower_case(self.text_of(length)))
             .collect()
     }
 
@@ -453,7 +459,7 @@ impl<'r> Maker<'r> {
     }
 
     /// UTF-8 of `length` bytes.
-    fn text_of(&mut self, length: usize) -> Vec<u8> {
+    pub fn text_of(&mut self, length: usize) -> Vec<u8> {
         let ascii = self.random.pick(&[100, 100, 90, 50, 0]);
         let mut text = Vec::with_capacity(length);
         while text.len() < length {

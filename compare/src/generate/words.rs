@@ -12,7 +12,7 @@ pub fn damaged(random: &mut Random, request: &str) -> String {
 }
 
 /// Words of such requests, and others in their place.
-const WORDS: [&str; 30] = [
+const WORDS: [&str; 33] = [
     "",
     "-",
     "0",
@@ -20,6 +20,9 @@ const WORDS: [&str; 30] = [
     "4",
     "16384",
     "16385",
+    "65535",
+    "65536",
+    "7f000001",
     "18446744073709551615",
     "18446744073709551616",
     "000000000000000000000",

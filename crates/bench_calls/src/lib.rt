@@ -4,7 +4,7 @@ ghost use mathlib.Core.Path.{_≡_};
 ghost use lib.ListN.{length};
 ghost use Rattle.rules.specs.Model.{limits, elements};
 ghost use Rattle.rules.specs.Writing.{readCall};
-ghost use Rattle.rules.specs.Calls.{outcome, after, resolveCall, textCall};
+ghost use Rattle.rules.specs.Calls.{outcome, after, resolveCall, textCall, optionsCall};
 ghost use Rattle.round_trip.specs.Again.{again};
 
 // The number of a link; its components are made too.
@@ -63,4 +63,13 @@ pub extern "C" fn bench_text(s: &[u8], room: &mut [u8]) -> u64
     ensures { λ _. ⌜ now (room .exit) ≡ after (textCall limits (now (s .entry))) (now (room .entry)) ⌝ }
 {
     told(cri::uri_text(s, room))
+}
+
+// The options of a request for a link, sent to this address and port, written into the room: the number, and 256 times the length written.
+#[no_mangle]
+pub extern "C" fn bench_options(s: &[u8], address: &[u8], port: u16, room: &mut [u8]) -> u64
+    ensures { λ r. ⌜ r ≡ outcome (optionsCall limits (now (s .entry)) (now (address .entry)) port) (length (now (room .entry))) .number + 256 * (outcome (optionsCall limits (now (s .entry)) (now (address .entry)) port) (length (now (room .entry))) .length % 65536) ⌝ }
+    ensures { λ _. ⌜ now (room .exit) ≡ after (optionsCall limits (now (s .entry)) (now (address .entry)) port) (now (room .entry)) ⌝ }
+{
+    told(cri::options(s, address, port, room))
 }

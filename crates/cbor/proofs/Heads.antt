@@ -12,7 +12,7 @@ use Rattle.rules.specs.Bytes.{Bytes, Octets, part, numberFrom}
 use Rattle.rules.specs.Result.{Res, refused, CUT, FORM, HEAD}
 use Rattle.rules.specs.Head.{Kind, Number, Negative, ByteString, Text, Array, True, Null, Other, Head, width, shortest, valueFrom, kindAt, infoAt, widthAt, valueAt, headAt, readHead}
 use Rattle.rules.specs.Reader.{spanAt}
-use Rattle.rules.proofs.Tools.{tests, cond-split, cond-yes, cond-no, length-part, octets-part, never}
+use Rattle.rules.proofs.Tools.{tests, cond-split, cond-yes, cond-no, length-part, part-cons, octets-part, never}
 use Rattle.rules.proofs.Steps.{need-yes, need-no, ok-at}
 use Rattle.rules.proofs.Heads.{Lead, lead, Fits, Stands, head-ok, small-value}
 use Rattle.rules.proofs.Texts.{ItemStands}
@@ -245,6 +245,18 @@ module _ (bs : Bytes) (at : ℕ) where
       value =
           f ∙ ap (λ (n : ℕ). numberFrom 0 (part bs (at + 1) n)) e
           ∙ sym (cond-no (ltb (infoAt bs at) 24) (infoAt bs at) _ (le-ltb (infoAt bs at) 24 h))
+
+  -- a length of one byte
+  pub span-byte : infoAt bs at ≡ 24 → at + 1 < length bs → spanIs (record { start = at + 1 + 1; length = getD bs (at + 1) 0 }) ≡ spanAt bs at
+  unfolding width numberFrom
+  span-byte e h = span-sized 1 (getD bs (at + 1) 0) (omega arith) (sym (ap width e)) value
+    where
+      value : getD bs (at + 1) 0 ≡ numberFrom 0 (part bs (at + 1) 1)
+      value = rw (part-cons bs (at + 1) 1 (at + 2) 0 h refl (omega arith)) (omega arith)
+
+  pub width-byte : infoAt bs at ≡ 24 → 1 ≡ widthAt bs at
+  unfolding width
+  width-byte e = sym (ap width e)
 
 -- ---- for callers
 

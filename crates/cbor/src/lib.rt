@@ -221,6 +221,12 @@ pub fn span_at(s: &[u8], at: usize) -> Span
             length: info as usize,
         };
     }
+    if info == 24 {
+        return Span {
+            start: from + 1,
+            length: s[from] as usize,
+        };
+    }
     let w = width_of(info);
     let v = number_at(s, from, w);
     Span {

@@ -10,13 +10,15 @@
 //    5  a text that is not UTF-8
 //    6  an unknown scheme number, or a broken rule of a scheme, a label or a segment
 //    7  bytes after the array
-//    8  a base that is refused or not absolute, or a link to be printed that is not absolute
+//    8  a base that is refused or not absolute, or a link that is not absolute to be printed or requested
 //    9  a resolved CRI of over 32 segments or over 1,024 bytes
 //   10  the room is shorter than the output
+//   11  a link to be requested whose scheme is a text, or which has a fragment
+//   12  a destination address that has not 4 or 16 bytes
 //   18  a path segment that is not there
 ghost use mathlib.Core.Path.{_≡_};
 ghost use lib.ListN.{length};
-ghost use Rattle.rules.specs.Calls.{outcome, after, writeCall, resolveCall, textCall};
+ghost use Rattle.rules.specs.Calls.{outcome, after, writeCall, resolveCall, textCall, optionsCall};
 ghost use Rattle.rules.specs.Model.{limits};
 ghost use Rattle.rules.specs.Writing.{readCall};
 ghost use Rattle.rules.specs.Views.{segmentView, segmentShown, authorityView, pieceShown, numberOf};
@@ -71,6 +73,17 @@ pub fn uri_text(s: &[u8], room: &mut [u8]) -> Done
     ensures { λ _. ⌜ now (room .exit) ≡ after (textCall limits (now (s .entry))) (now (room .entry)) ⌝ }
 {
     uri::uri_text(s, room)
+}
+
+// Writes the CoAP options of a request for an absolute CRI into the room, given the address and the port that the request is sent to: 0 and
+// the length written. Or it refuses, with length 0, and the room is as it was: 12 where the address has not 4 or 16 bytes; the number from
+// 1 to 7 that `read` has for s; 8 where s is not absolute; 11 where its scheme is a text or a fragment is set; 10 where the room is
+// shorter than the options. For s of n bytes a room of 2n + 16 is long enough.
+pub fn options(s: &[u8], address: &[u8], port: u16, room: &mut [u8]) -> Done
+    ensures { λ r. ⌜ doneIs r ≡ outcome (optionsCall limits (now (s .entry)) (now (address .entry)) port) (length (now (room .entry))) ⌝ }
+    ensures { λ _. ⌜ now (room .exit) ≡ after (optionsCall limits (now (s .entry)) (now (address .entry)) port) (now (room .entry)) ⌝ }
+{
+    options::options(s, address, port, room)
 }
 
 // The n-th path segment of a reference, from 0: the part of s that holds its bytes. Where `segment_number` is not 0, the empty

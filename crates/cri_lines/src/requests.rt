@@ -17,6 +17,7 @@ use request_words::is_fault;
 use request_words::take_bytes;
 use request_words::take_components;
 use request_words::take_number;
+use request_words::take_number_16;
 use sameness::Verdict;
 
 // Why a line is no request.
@@ -33,6 +34,7 @@ fn put_fault(out: &mut Output, used: usize, fault: Fault) -> usize
         Fault::NotDecimal => put_text(out, used, b"? not a decimal number"),
         Fault::TooLarge => put_text(out, used, b"? a number over 64 bits"),
         Fault::RoomTooLarge => put_text(out, used, b"? room over 16384 bytes"),
+        Fault::PortTooLarge => put_text(out, used, b"? port over 65535"),
         Fault::Unknown => put_text(out, used, b"? a word that may not stand there"),
         Fault::TooMany => put_text(out, used, b"? too many words"),
         Fault::None => used,
@@ -220,11 +222,38 @@ fn text(
     put_done(out, used, room, done)
 }
 
+// options ROOM HEX ADDRESS PORT, from the address on
+fn options(
+    out: &mut Output,
+    used: usize,
+    room: &mut [u8],
+    input: &[u8],
+    line: &[u8],
+    c: Cursor,
+) -> usize
+    requires { ⌜ used ≤ 65536 ⌝ }
+    ensures { λ r. ⌜ r ≤ 65536 ⌝ }
+{
+    let mut lent = [0u8; 32768];
+    let bytes = take_bytes(&mut lent, line, c);
+    let after = bytes.rest;
+    let port = take_number_16(line, after);
+    let rest = port.rest;
+    let fault = finish(line, rest);
+    if is_fault(fault) {
+        return put_fault(out, used, fault);
+    }
+    let n = bytes.length;
+    let done = cri::options(input, &lent[..n], port.value, room);
+    put_done(out, used, room, done)
+}
+
 // The calls that are lent a room.
 enum Call {
     Write,
     Resolve,
     Text,
+    Options,
 }
 
 // The words ROOM and HEX, and what the call answers from there on.
@@ -245,6 +274,7 @@ fn lend(out: &mut Output, used: usize, line: &[u8], c: Cursor, call: Call) -> us
         Call::Write => write(out, used, &mut room[..k], &lent[..n], line, third),
         Call::Resolve => resolve(out, used, &mut room[..k], &lent[..n], line, third),
         Call::Text => text(out, used, &mut room[..k], &lent[..n], line, third),
+        Call::Options => options(out, used, &mut room[..k], &lent[..n], line, third),
     }
 }
 
@@ -280,6 +310,9 @@ fn request_of(name: &[u8]) -> Request {
     }
     if check::same(name, b"text") {
         return Request::Lent(Call::Text);
+    }
+    if check::same(name, b"options") {
+        return Request::Lent(Call::Options);
     }
     Request::Unknown
 }

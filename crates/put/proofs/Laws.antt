@@ -6,9 +6,9 @@ use native.Mathlib.Omega.{arith}
 use mathlib.Core.Path.{_≡_, refl, sym, ap, _∙_, subst}
 use mathlib.Core.List.{[], _∷_, _++_, append-assoc}
 use lib.ListN.{length, set, getD, take, drop, length-append}
-use lib.Seq.{sets, sets-eq, length-sets, length-take-le, take-at, drop-at}
+use lib.Seq.{sets, sets-eq, length-sets, length-take-le, take-at, drop-at, take-add, drop-drop, set-set, set-comm}
 use Rattle.rules.specs.Bytes.{Bytes, part}
-use Rattle.rules.proofs.Tools.{part-whole, part-step, part-end}
+use Rattle.rules.proofs.Tools.{length-part, part-none, part-cons, part-whole, part-step, part-end}
 use Rattle.put.specs.Wrote.{Wrote}
 
 -- ---- pieces one after the other
@@ -126,3 +126,60 @@ module _ (f : Bytes → Bytes) (g : ℕ → Bytes) (each : (x : ℕ) (xs : Bytes
 
   pub count-last : {n m : ℕ} → end ≤ i → Count n (f (part s i (end - i))) m → n ≡ m
   count-last h e = omega (arith, rw (part-end s i end h, none) at (e .sum))
+
+-- ---- eight bytes at once
+
+pub wrote-eight : {l : Bytes} {i a b c d e f g h : ℕ}
+    → Wrote l i (a ∷ b ∷ c ∷ d ∷ e ∷ f ∷ g ∷ h ∷ [])
+    (set (set (set (set (set (set (set (set l i a) (i + 1) b) (i + 2) c) (i + 3) d) (i + 4) e) (i + 5) f) (i + 6) g) (i + 7) h) (i + 8)
+wrote-eight = record { bytes = simp towards-suc; place = refl }
+
+pub part-eight : (bs : Bytes) (i : ℕ) → i + 8 ≤ length bs
+    → getD bs i 0 ∷ getD bs (i + 1) 0 ∷ getD bs (i + 2) 0 ∷ getD bs (i + 3) 0 ∷ getD bs (i + 4) 0 ∷ getD bs (i + 5) 0 ∷ getD bs (i + 6) 0 ∷ getD bs (i + 7) 0 ∷ [] ≡ part bs i 8
+part-eight bs i h =
+    sym (one i 8 (i + 1) 7 (omega arith) refl (omega arith)
+    (one (i + 1) 7 (i + 2) 6 (omega arith) refl (omega arith)
+    (one (i + 2) 6 (i + 3) 5 (omega arith) refl (omega arith)
+    (one (i + 3) 5 (i + 4) 4 (omega arith) refl (omega arith)
+    (one (i + 4) 4 (i + 5) 3 (omega arith) refl (omega arith)
+    (one (i + 5) 3 (i + 6) 2 (omega arith) refl (omega arith)
+    (one (i + 6) 2 (i + 7) 1 (omega arith) refl (omega arith)
+    (one (i + 7) 1 (i + 8) 0 (omega arith) refl (omega arith) (part-none bs (i + 8) 0 refl)))))))))
+  where
+    one : (i n j m : ℕ) → i < length bs → n ≡ suc m → j ≡ suc i → {r : Bytes} → part bs j m ≡ r → part bs i n ≡ getD bs i 0 ∷ r
+    one i n j m h e f g = part-cons bs i n j m h e f ∙ ap (λ (r : Bytes). getD bs i 0 ∷ r) g
+
+-- bytes written over others that are no more
+set-sets : (l v : Bytes) (i j b : ℕ) → i < j → set (sets l j v) i b ≡ sets (set l i b) j v
+set-sets l [] i j b h = refl
+set-sets l (a ∷ v) i j b h = set-sets (set l j a) v i (suc j) b (omega arith) ∙ ap (λ (l : Bytes). sets l (suc j) v) (set-comm l j i a b (λ e. omega arith))
+
+sets-over : (l v w : Bytes) (i : ℕ) → length v ≤ length w → sets (sets l i v) i w ≡ sets l i w
+sets-over l [] w i h = refl
+sets-over l (a ∷ v) [] i h = absurd (omega arith)
+sets-over l (a ∷ v) (b ∷ w) i h =
+    ap (λ (l : Bytes). sets l (suc i) w) (set-sets (set l i a) v i (suc i) b (omega arith) ∙ ap (λ (l : Bytes). sets l (suc i) v) (set-set l i a b))
+    ∙ sets-over (set l i b) v w (suc i) (omega arith)
+
+part-add : (s : Bytes) (from j m : ℕ) → part s from (j + m) ≡ part s from j ++ part s (from + j) m
+part-add s from j m = take-add j m (drop from s) ∙ ap (λ (l : Bytes). part s from j ++ take m l) (drop-drop j from s)
+
+-- the first k bytes of a part were written, and then the m bytes after its first j, which overlap them or follow them
+pub wrote-over : {a b c : Bytes} {e : ℕ} (s : Bytes) (i from k j m : ℕ) → j ≤ k → k ≤ j + m → from + (j + m) ≤ length s
+    → b ≡ sets a i (part s from k) → Wrote b (i + j) (part s (from + j) m) c e → Wrote a i (part s from (j + m)) c e
+wrote-over {a} {b} {c} {e} s i from k j m u v h x y =
+    let first : Bytes = part s from j in
+    let old : Bytes = part s (from + j) (k - j) in
+    let new : Bytes = part s (from + j) m in
+    let n : length first ≡ j = length-part s from j (omega arith) in
+    let whole : k ≡ j + (k - j) = omega arith in
+    let split : part s from k ≡ first ++ old = ap (part s from) whole ∙ part-add s from j (k - j) in
+    let before : b ≡ sets (sets a i first) (i + j) old = x ∙ ap (sets a i) split ∙ sym (rw n at (sets-append first old a i)) in
+    record {
+      bytes =
+          y .bytes ∙ ap (λ (l : Bytes). sets l (i + j) new) before
+          ∙ sets-over (sets a i first) old new (i + j) (omega (arith, length-part s (from + j) (k - j) (omega arith), length-part s (from + j) m (omega arith)))
+          ∙ rw n at (sets-append first new a i)
+          ∙ ap (sets a i) (sym (part-add s from j m));
+      place = omega (arith, y .place, length-part s (from + j) m (omega arith), length-part s from (j + m) (omega arith));
+    }

@@ -14,8 +14,48 @@ pub fn put_byte(room: &mut [u8], at: usize, b: u8) -> usize
     at + 1
 }
 
-// The n bytes of src from a position on.
-pub fn put_part(room: &mut [u8], at: usize, src: &[u8], from: usize, n: usize) -> usize
+// Eight bytes of src from a position on. All are read before one is written, so that they are copied at once.
+fn put_eight(room: &mut [u8], at: usize, src: &[u8], from: usize) -> usize
+    requires { ⌜ from + 8 ≤ length (now src) ⌝ }
+    requires { ⌜ at + 8 ≤ length (now room) ⌝ }
+    ensures { λ r. ⌜ Wrote (now (room .entry)) at (part (now (src .entry)) from 8) (now (room .exit)) r ⌝ }
+{
+    let a = src[from];
+    let b = src[from + 1];
+    let c = src[from + 2];
+    let d = src[from + 3];
+    let e = src[from + 4];
+    let f = src[from + 5];
+    let g = src[from + 6];
+    let h = src[from + 7];
+    room[at] = a;
+    room[at + 1] = b;
+    room[at + 2] = c;
+    room[at + 3] = d;
+    room[at + 4] = e;
+    room[at + 5] = f;
+    room[at + 6] = g;
+    room[at + 7] = h;
+    at + 8
+}
+
+// Eight bytes of src or more, eight at a time. Of the last eight some may be written for the second time.
+fn put_blocks(room: &mut [u8], at: usize, src: &[u8], from: usize, n: usize) -> usize
+    requires { ⌜ (8 ≤ n) × (from + n ≤ length (now src)) ⌝ }
+    requires { ⌜ at + n ≤ length (now room) ⌝ }
+    ensures { λ r. ⌜ Wrote (now (room .entry)) at (part (now (src .entry)) from n) (now (room .exit)) r ⌝ }
+{
+    let last = n - 8;
+    let mut k = 0;
+    while k < last {
+        put_eight(room, at + k, src, from + k);
+        k += 8;
+    }
+    put_eight(room, at + last, src, from + last)
+}
+
+// Bytes of src, one at a time.
+fn put_single(room: &mut [u8], at: usize, src: &[u8], from: usize, n: usize) -> usize
     requires { ⌜ from + n ≤ length (now src) ⌝ }
     requires { ⌜ at + n ≤ length (now room) ⌝ }
     ensures { λ r. ⌜ Wrote (now (room .entry)) at (part (now (src .entry)) from n) (now (room .exit)) r ⌝ }
@@ -29,6 +69,18 @@ pub fn put_part(room: &mut [u8], at: usize, src: &[u8], from: usize, n: usize) -
         i += 1;
     }
     o
+}
+
+// The n bytes of src from a position on.
+pub fn put_part(room: &mut [u8], at: usize, src: &[u8], from: usize, n: usize) -> usize
+    requires { ⌜ from + n ≤ length (now src) ⌝ }
+    requires { ⌜ at + n ≤ length (now room) ⌝ }
+    ensures { λ r. ⌜ Wrote (now (room .entry)) at (part (now (src .entry)) from n) (now (room .exit)) r ⌝ }
+{
+    if n < 8 {
+        return put_single(room, at, src, from, n);
+    }
+    put_blocks(room, at, src, from, n)
 }
 
 // All of a byte string.

@@ -414,7 +414,8 @@ fn names_at(s: &[u8], at: usize, items: usize, count: usize) -> Names
     Names::Are(seen, Port::Unset, here)
 }
 
-fn address_length(n: u64) -> bool
+// Whether an address may have so many bytes.
+pub fn is_address_length(n: u64) -> bool
     ensures { λ r. ⌜ r ≡ (eqb n 4 || eqb n 16) ⌝ }
 {
     match n {
@@ -428,7 +429,7 @@ fn address_host(s: &[u8], start: usize, at: usize, left: usize, n: u64, next: us
     requires { ⌜ next ≤ length (now s) ⌝ }
     ensures { λ r. ⌜ authorityIs r ≡ R.addressHost (now (s .entry)) start at left (record { kind = ByteString; value = n; next = next }) ⌝ }
 {
-    if !address_length(n) {
+    if !is_address_length(n) {
         return Authority::Refused(4, at);
     }
     let count = n as usize;

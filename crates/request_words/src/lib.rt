@@ -24,6 +24,7 @@ pub enum Fault {
     NotDecimal,
     TooLarge,
     RoomTooLarge,
+    PortTooLarge,
     Unknown,
     TooMany,
 }
@@ -207,6 +208,33 @@ pub fn take_number(line: &[u8], c: Cursor) -> TakenNumber {
         },
         words::Number::NotDecimal => no_number(end, fault, Fault::NotDecimal),
         words::Number::TooLarge => no_number(end, fault, Fault::TooLarge),
+    }
+}
+
+// The number of 16 bits that a word said, and the place after the word.
+pub struct TakenNumber16 {
+    pub value: u16,
+    pub rest: Cursor,
+}
+
+// The next word, read as a port: a number of 16 bits.
+pub fn take_number_16(line: &[u8], c: Cursor) -> TakenNumber16 {
+    let number = take_number(line, c);
+    let rest = number.rest;
+    let at = rest.at;
+    let fault = rest.fault;
+    if number.value <= 65535 {
+        return TakenNumber16 {
+            value: number.value as u16,
+            rest: rest,
+        };
+    }
+    TakenNumber16 {
+        value: 0,
+        rest: Cursor {
+            at: at,
+            fault: first(fault, Fault::PortTooLarge),
+        },
     }
 }
 

@@ -12,7 +12,8 @@ use Rattle.rules.specs.Bytes.{Bytes, Each, Octets}
 use Rattle.rules.specs.Result.{Res, refused, ok, given, _>>=_, BASE}
 use Rattle.rules.specs.Model.{Opening, discard, discardAll, full, Reference, Limits, Cri, elements, absolute, reference, setPath}
 use Rattle.rules.specs.Rules.{segment, parameter, fragmentText}
-use Rattle.rules.specs.Meaning.{readReference, readAbsolute}
+use Rattle.rules.specs.Reader.{Found, read}
+use Rattle.rules.specs.Meaning.{meaning, readReference, readAbsolute}
 use Rattle.rules.specs.Encode.{encode}
 use Rattle.rules.specs.Valid.{If, Good, GoodTexts, GoodAuthority, GoodScheme, GoodOpening, Valid}
 use Rattle.rules.specs.Resolve.{fits}
@@ -86,6 +87,11 @@ read-as lim bs c e = go (readReference lim bs) refl e
     go (refused n k) m e = refused-ok n k c e
     go (ok r) m e = held r (absolute r) refl e m
 
+-- by where everything stands
+pub read-absolute : (lim : Limits) (bs : Bytes) (f : Found) → read lim bs ≡ ok f → readAbsolute lim bs ≡ given (absolute (meaning bs f)) BASE 0
+unfolding readAbsolute readReference _>>=_
+read-absolute lim bs f e = rw e
+
 -- it is not too long
 pub absolute-size : (lim : Limits) (bs : Bytes) (c : Cri) → readAbsolute lim bs ≡ ok c → length bs ≤ lim .bytes
 unfolding readAbsolute readReference
@@ -134,6 +140,17 @@ pub good-read : (lim : Limits) (bs : Bytes) (c : Cri) → Octets bs → readAbso
 good-read lim bs c h e =
     let r = read-as lim bs c e in
     good-cri lim (r .said) c (ok-at (canonical lim bs h) (r .read) .1) (r .is)
+
+-- which is the encoding of its CRI's reference; an empty path is unset there, or the empty array
+pub record EncodedAs (bs : Bytes) (c : Cri) : Type 0 where
+  pub path : Option (List Bytes)
+  pub is : elements path ≡ c .path
+  pub bytes : encode (withPath c path) ≡ bs
+
+pub encoded-as : (lim : Limits) (bs : Bytes) (c : Cri) → Octets bs → readAbsolute lim bs ≡ ok c → EncodedAs bs c
+encoded-as lim bs c h e =
+    let r = read-as lim bs c e in
+    record { path = r .said .path; is = r .is .path; bytes = sym (ap encode (absolute-same (r .said) c (r .is))) ∙ ok-at (canonical lim bs h) (r .read) .0 }
 
 -- a CRI that fits is read again from its encoding
 set-valid : (n : ℕ) (ts : List Bytes) → Each (Good segment) ts → length ts ≤ n → If (GoodTexts segment 0 n) (setPath ts)

@@ -23,5 +23,7 @@ pub mod TextBack
 pub mod TextBound
 pub mod Resolving
 pub mod Again
+pub mod OptionsBack
+pub mod OptionsBound
 pub mod Compute
 pub mod Proved

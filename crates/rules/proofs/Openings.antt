@@ -11,7 +11,7 @@ use borrow.Author.Tests.{leb-true, le-leb, ltb-true, eqb-true, ne-eqb}
 use Rattle.rules.specs.Bytes.{Bytes, Octets, all, any, concat, bigEndian}
 use Rattle.rules.specs.Model.{Scheme, number, name, Authority, Opening, discard, discardAll, full}
 use Rattle.rules.specs.Head.{Kind, Number, Negative, ByteString, Text, Array, True, Null, Other, codeOf, is, Head, kindAt, headAt, headBytes, majorOf, shortest, width}
-use Rattle.rules.specs.Rules.{schemeName, SchemeEntry, schemes, knownScheme}
+use Rattle.rules.specs.Rules.{schemeName, SchemeEntry, schemes, schemeIn, knownScheme}
 use Rattle.rules.specs.Reader.{opens, taken, SchemeAt, noScheme, numberAt, nameAt, OpeningAt, discardAt, discardAllAt, fullAt, Opened, readAuthority, afterScheme, openingBody, readOpening}
 use Rattle.rules.specs.Encode.{authorityItem, schemeItem, orNull, nullItem, trueItem, withOpening, discardAlone}
 use Rattle.rules.specs.Valid.{If, GoodAuthority, GoodScheme, GoodOpening}
@@ -217,6 +217,11 @@ of-schemes p [] a n k = never k
 of-schemes p (e ∷ es) a n k =
     by-test (λ t. (t || any (λ (e : SchemeEntry). eqb n (e .number)) es) ≡ true → p n ≡ true) (eqb n (e .number))
     (λ d k. rw (eqb-true n (e .number) d) (and-left (p (e .number)) _ a)) (λ d k. of-schemes p es (and-right (p (e .number)) _ a) n k) k
+
+-- no other number is in the table
+pub no-scheme : (n : ℕ) → (n ≡ 0 → ⊥) → (n ≡ 1 → ⊥) → (n ≡ 6 → ⊥) → (n ≡ 7 → ⊥) → (n ≡ 8 → ⊥) → (n ≡ 9 → ⊥) → schemeIn schemes n ≡ none
+unfolding schemeIn schemes
+no-scheme n a b c d e f = simp (ne-eqb n 0 a, ne-eqb n 1 b, ne-eqb n 6 c, ne-eqb n 7 d, ne-eqb n 8 e, ne-eqb n 9 f)
 
 known-below : (n : ℕ) → knownScheme n ≡ true → n < 256
 unfolding knownScheme schemes all

@@ -12,11 +12,12 @@ use Rattle.rules.specs.Result.{ok, need, _>>_}
 use Rattle.rules.specs.Model.{Cri, reference, normal}
 use Rattle.rules.specs.Meaning.{readReference}
 use Rattle.rules.specs.Encode.{encode}
-use Rattle.rules.specs.Valid.{Valid}
+use Rattle.rules.specs.Valid.{If, Valid}
 use Rattle.rules.specs.Resolve.{resolve}
 use Rattle.rules.specs.Text.{uriText}
-use Rattle.rules.specs.Calls.{Ruling, write, Done, outcome, after, textCall, resolveCall}
-use Rattle.rules.specs.Cases.{starred, unstarred, slips, refusals, requests, addresses}
+use Rattle.rules.specs.Options.{options, optionsFrom, readOptions}
+use Rattle.rules.specs.Calls.{Ruling, write, Done, outcome, after, textCall, resolveCall, optionsCall}
+use Rattle.rules.specs.Cases.{starred, unstarred, slips, refusals, requests, codings, addresses}
 use Rattle.rules.specs.Promises as P
 use Rattle.rules.specs.Promises.{done, shown, Writes, unfragmented}
 use Rattle.rules.proofs.Steps.{ok-at}
@@ -29,6 +30,8 @@ use Rattle.rules.proofs.TextBack.{text-same}
 use Rattle.rules.proofs.TextBound.{read-bound}
 use Rattle.rules.proofs.Resolving.{nothing, resolve-nothing, resolve-empty, resolve-again, resolve-absolute, good-resolve, resolved-is, resolve-writes}
 use Rattle.rules.proofs.Again.{encode-some, valid-unfragmented, valid-normal, read-nothing}
+use Rattle.rules.proofs.OptionsBack.{options-octets, options-read, IsOptions, is-options, ruling-ok, requested-read}
+use Rattle.rules.proofs.OptionsBound.{read-options-bound}
 use Rattle.rules.proofs.Compute.{computed}
 
 pub canonical-proved : P.Canonical
@@ -135,6 +138,29 @@ absolute-reference-proved lim base ref b c h eb ec =
     resolve-writes lim base ref b (a .said) (normal c) eb (a .read) (ap (resolve b) same ∙ resolve-absolute b c p (a .is .path))
     (valid-fits lim (normal c) (rw (a .is .path) at (valid-normal lim c p v)))
 
+-- ---- options
+
+pub options-back-proved : P.OptionsBack
+options-back-proved os k = (options-octets 0 os (k .each), options-read os k)
+
+pub options-exact-proved : P.OptionsExact
+unfolding readOptions
+options-exact-proved bs os h = (
+  λ e. let i = subst (If (IsOptions 0 bs)) e (is-options (length bs) 0 bs h) in (i .bytes, record { rising = i .rising; each = i .each }),
+  λ e. ap readOptions (sym (e .0)) ∙ options-read os (e .1),
+)
+
+pub options-read-proved : P.OptionsRead
+unfolding optionsCall
+options-read-proved lim bs toAddress toPort w h e = ok-at (requested-read lim bs toAddress toPort h) (ruling-ok _ w e)
+
+pub options-bound-proved : P.OptionsBound
+options-bound-proved lim bs toAddress toPort w h e =
+    let q : P.Requested lim bs toAddress toPort w = options-read-proved lim bs toAddress toPort w h e in
+    let coded : optionsFrom 0 (options (q .cri) (q .entry) toAddress toPort) ≡ w = options-exact-proved w _ (q .octets) .0 (q .back) .0 in
+    let l : length w ≤ 2 * length bs + 16 = rw coded at (read-options-bound lim bs (q .cri) (q .entry) toAddress toPort h (q .read)) in
+    (l, λ n k. enough (optionsCall lim bs toAddress toPort) w n e (omega arith))
+
 -- ---- worked examples
 
 pub starred-proved : P.Starred
@@ -142,5 +168,5 @@ unfolding computed starred
 starred-proved = refl
 
 pub examples-proved : P.Examples
-unfolding computed unstarred slips refusals requests addresses
-examples-proved = record { rows = refl; slipped = refl; order = refl; options = refl; ipv6 = refl }
+unfolding computed unstarred slips refusals requests codings addresses
+examples-proved = record { rows = refl; slipped = refl; order = refl; options = refl; codings = refl; ipv6 = refl }

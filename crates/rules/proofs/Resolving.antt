@@ -68,7 +68,7 @@ resolve-absolute b c p e = rw (← e) (go p (c .query) (c .fragment))
 
 -- ---- each step keeps the rules
 
-normal-each : (P : Bytes → Type 0) (ts : List Bytes) → Each P ts → Each P (normalPath ts)
+pub normal-each : (P : Bytes → Type 0) (ts : List Bytes) → Each P ts → Each P (normalPath ts)
 unfolding normalPath
 normal-each P [] h = tt
 normal-each P ([] ∷ []) h = tt

@@ -3,12 +3,14 @@ use Prim.Native.Nat.{ℕ}
 use Prim.Native.String.{String}
 use mathlib.Core.Path.{_≡_}
 use mathlib.Core.List.{List, [], _∷_, _++_, map}
+use mathlib.Core.Option.{Option, none, some}
 use lib.ListN.{replicate}
 use Rattle.rules.specs.Bytes.{Bytes, ascii, hex}
 use Rattle.rules.specs.Result.{Res, refused, ok}
 use Rattle.rules.specs.Model.{limits}
 use Rattle.rules.specs.Reader.{Found, read}
 use Rattle.rules.specs.Address.{ipv6Text}
+use Rattle.rules.specs.Options.{CoapOption, option, readOptions}
 use Rattle.rules.specs.Calls.{Ruling, refuse, write, resolveCall, textCall, optionsCall}
 
 -- ---- rows
@@ -216,4 +218,48 @@ addresses =
     ∷ ipv6 "00 01 00 00 00 00 00 00 00 00 00 00 00 00 00 00" "1::"
     ∷ ipv6 "00 01 00 00 00 00 00 02 00 00 00 00 00 00 00 03" "1:0:0:2::3"
     ∷ ipv6 "00 01 00 00 00 02 00 03 00 04 00 05 00 06 00 07" "1:0:2:3:4:5:6:7"
+    ∷ []
+
+-- ---- 11.6: option bytes, read back
+
+-- option bytes, and the options that they code; none is a fault
+pub record Coding : Type 0 where
+  pub input : Bytes
+  pub options : Option (List CoapOption)
+
+-- the bytes code these options
+abbrev pub coded : Bytes → List CoapOption → Coding
+coded bs os = record { input = bs; options = some os }
+
+-- the bytes are a fault
+abbrev pub fault : String → Coding
+fault s = record { input = hex s; options = none }
+
+-- what is read
+abbrev pub answeredCoding : Coding → Coding
+answeredCoding c = record { input = c .input; options = readOptions (c .input) }
+
+-- each with what is special about it
+unfoldable pub codings : List Coding
+codings =
+    -- no option; the second row of 11.2; a delta of 15, without and with a length of 13 or more; the largest number
+    coded [] []
+    ∷ coded (hex "72 F0 B0 4B" ++ ascii ".well-known" ++ hex "04" ++ ascii "core")
+    (option 7 (hex "F0 B0") ∷ option 11 (ascii ".well-known") ∷ option 11 (ascii "core") ∷ [])
+    ∷ coded (hex "D1 02 61") (option 15 (ascii "a") ∷ [])
+    ∷ coded (hex "DD 02 00" ++ ascii "temperature=1") (option 15 (ascii "temperature=1") ∷ [])
+    ∷ coded (hex "E0 FE F2") (option 65535 [] ∷ [])
+    -- a larger number, at once and by a second option
+    ∷ fault "E0 FE F3"
+    ∷ fault "E0 FE F2 10"
+    -- nibble 15 as delta, as length, as both
+    ∷ fault "F0"
+    ∷ fault "0F"
+    ∷ fault "FF"
+    -- an extension cut: of 13, of 14, of the length after the delta's
+    ∷ fault "D0"
+    ∷ fault "E1 00"
+    ∷ fault "DD 02"
+    -- a value cut
+    ∷ fault "11"
     ∷ []

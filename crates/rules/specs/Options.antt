@@ -1,11 +1,11 @@
 -- RULES 7: the CoAP options of a request for a CRI (RFC 7252, section 3.1).
-use Prim.Native.Nat.{ℕ, _+_, _*_, _-_, _/_, _%_}
-use mathlib.Core.Bool.{cond}
+use Prim.Native.Nat.{ℕ, zero, suc, _+_, _*_, _-_, _/_, _%_, _≤_}
+use mathlib.Core.Bool.{cond, _&&_}
 use mathlib.Core.List.{List, [], _∷_, _++_, map}
-use mathlib.Core.Option.{Option, none, Option·getD}
-use lib.ListN.{length}
-use lib.Dec.{ltb, eqb}
-use Rattle.rules.specs.Bytes.{Bytes, dot, same, join}
+use mathlib.Core.Option.{Option, none, some, Option·getD, bind as _>>=_}
+use lib.ListN.{length, take, drop}
+use lib.Dec.{leb, ltb, eqb}
+use Rattle.rules.specs.Bytes.{Bytes, Each, Octets, dot, same, join}
 use Rattle.rules.specs.Model.{Scheme, number, name, Host, address, labels, Cri, elements, normalPath}
 use Rattle.rules.specs.Rules.{SchemeEntry, schemes, schemeIn}
 use Rattle.rules.specs.Address.{addressText}
@@ -64,3 +64,76 @@ optionsFrom before (o ∷ os) = optionBytes (o .number - before) (o .value) ++ o
 abbrev pub coapScheme : Scheme Bytes → Option SchemeEntry
 coapScheme (number n) = schemeIn schemes n
 coapScheme (name t) = none
+
+-- ---- 7.7: the coding, read back; none is a fault
+
+-- a number that was read, and the bytes after it
+pub record Extended : Type 0 where
+  pub number : ℕ
+  pub rest : Bytes
+
+-- n is read, and these bytes are left
+abbrev pub reads : ℕ → Bytes → Option Extended
+reads n bs = some (record { number = n; rest = bs })
+
+-- one byte more, the number less 13; a cut extension is a fault
+unfoldable pub oneByteMore : Bytes → Option Extended
+oneByteMore [] = none
+oneByteMore (a ∷ bs) = reads (a + 13) bs
+
+-- two bytes more, the number less 269, the highest byte first
+unfoldable pub twoBytesMore : Bytes → Option Extended
+twoBytesMore [] = none
+twoBytesMore (a ∷ []) = none
+twoBytesMore (a ∷ b ∷ bs) = reads (a * 256 + b + 269) bs
+
+-- what a nibble says with the bytes after it: below 13 itself; 13 has one byte more, 14 has two, and 15 is a fault
+unfoldable pub extended : ℕ → Bytes → Option Extended
+extended n bs = cond (ltb n 13) (reads n bs) (cond (eqb n 13) (oneByteMore bs) (cond (eqb n 14) (twoBytesMore bs) none))
+
+-- an option that was read, and the bytes after it
+pub record OptionAt : Type 0 where
+  pub option : CoapOption
+  pub rest : Bytes
+
+-- the option of number n whose value is the first `size` bytes; a number over 65535 and a cut value are faults
+unfoldable pub optionAt : ℕ → ℕ → Bytes → Option OptionAt
+optionAt n size bs =
+    cond (leb n 65535 && leb size (length bs)) (some (record { option = option n (take size bs); rest = drop size bs })) none
+
+-- the option whose first byte is b, after one with the number `before`: the delta's extension comes first, then the length's
+unfoldable pub readOption : ℕ → ℕ → Bytes → Option OptionAt
+readOption before b bs = do
+  delta ← extended (b / 16) bs
+  size ← extended (b % 16) (delta .rest)
+  optionAt (before + delta .number) (size .number) (size .rest)
+
+-- at most n options, up to the end of the bytes
+unfoldable pub readOptionsFrom : ℕ → ℕ → Bytes → Option (List CoapOption)
+readOptionsFrom zero before [] = some []
+readOptionsFrom zero before (b ∷ bs) = none
+readOptionsFrom (suc n) before [] = some []
+readOptionsFrom (suc n) before (b ∷ bs) = do
+  o ← readOption before b bs
+  os ← readOptionsFrom n (o .option .number) (o .rest)
+  some (o .option ∷ os)
+
+-- the options that bytes code; each takes one byte at least
+unfoldable pub readOptions : Bytes → Option (List CoapOption)
+readOptions bs = readOptionsFrom (length bs) 0 bs
+
+-- the numbers never fall, from `before` on
+abbrev pub Rising : ℕ → List CoapOption → Type 0
+Rising before [] = Unit {0}
+Rising before (o ∷ os) = (before ≤ o .number) × Rising (o .number) os
+
+-- a number of 16 bits, and a value that is made of bytes and whose length two extension bytes can give: 65535 + 269 at most
+pub record GoodOption (o : CoapOption) : Type 0 where
+  pub number : o .number ≤ 65535
+  pub size : length (o .value) ≤ 65804
+  pub octets : Octets (o .value)
+
+-- options that 7.6 can code
+pub record Codable (os : List CoapOption) : Type 0 where
+  pub rising : Rising 0 os
+  pub each : Each GoodOption os

@@ -2,7 +2,7 @@
 use Prim.Native.Nat.{ℕ, _+_, _*_, _^_, _≤_, _<_}
 use mathlib.Core.Path.{_≡_}
 use mathlib.Core.Bool.{true, false}
-use mathlib.Core.List.{[], _∷_, _++_, map}
+use mathlib.Core.List.{List, [], _∷_, _++_, map}
 use mathlib.Core.Logic.{_↔_}
 use mathlib.Core.Option.{none, some}
 use lib.ListN.{length, take}
@@ -14,10 +14,12 @@ use Rattle.rules.specs.Meaning.{readReference, readAbsolute}
 use Rattle.rules.specs.Encode.{encode}
 use Rattle.rules.specs.Valid.{Valid}
 use Rattle.rules.specs.Resolve.{resolve, fits}
+use Rattle.rules.specs.Rules.{SchemeEntry}
 use Rattle.rules.specs.Text.{uriText}
+use Rattle.rules.specs.Options.{CoapOption, options, optionsFrom, coapScheme, readOptions, Codable}
 use Rattle.rules.specs.Writing.{Sized, readCall}
-use Rattle.rules.specs.Calls.{Ruling, refuse, write, Done, outcome, after, resolveCall, textCall, writeCall}
-use Rattle.rules.specs.Cases.{AllHold, B, starred, unstarred, longBase, slips, refusals, answeredRefusal, requests, answeredRequest, addresses, ipv6Printed}
+use Rattle.rules.specs.Calls.{Ruling, refuse, write, Done, outcome, after, resolveCall, textCall, optionsCall, writeCall}
+use Rattle.rules.specs.Cases.{AllHold, B, starred, unstarred, longBase, slips, refusals, answeredRefusal, requests, answeredRequest, codings, answeredCoding, addresses, ipv6Printed}
 
 -- ---- the reader accepts exactly the encodings of valid references, and gives them back
 
@@ -148,16 +150,52 @@ AbsoluteReference =
     (lim : Limits) (base ref : Bytes) (b c : Cri) → Octets ref → readAbsolute lim base ≡ ok b → readAbsolute lim ref ≡ ok c
     → resolveCall lim base ref ≡ write (encode (reference (normal c)))
 
+-- ---- CoAP options: what is coded is read back
+
+-- the coding of options that can be coded is made of bytes, and is read as those options
+abbrev pub OptionsBack : Type 0
+OptionsBack = (os : List CoapOption) → Codable os → Octets (optionsFrom 0 os) × (readOptions (optionsFrom 0 os) ≡ some os)
+
+-- bytes are read as options exactly if they are the coding of those options, and these can be coded
+abbrev pub OptionsExact : Type 0
+OptionsExact = (bs : Bytes) (os : List CoapOption) → Octets bs → (readOptions bs ≡ some os) ↔ ((optionsFrom 0 os ≡ bs) × Codable os)
+
+-- what the options call writes is read as the options of the absolute CRI that its input says, which has one of the six schemes and
+-- no fragment
+pub record Requested (lim : Limits) (bs toAddress : Bytes) (toPort : ℕ) (w : Bytes) : Type 0 where
+  pub cri : Cri
+  pub entry : SchemeEntry
+  pub read : readAbsolute lim bs ≡ ok cri
+  pub scheme : coapScheme (cri .scheme) ≡ some entry
+  pub fragment : cri .fragment ≡ none
+  pub octets : Octets w
+  pub back : readOptions w ≡ some (options cri entry toAddress toPort)
+
+-- for any limits and any destination
+abbrev pub OptionsRead : Type 0
+OptionsRead =
+    (lim : Limits) (bs toAddress : Bytes) (toPort : ℕ) (w : Bytes) → Octets bs → optionsCall lim bs toAddress toPort ≡ write w
+    → Requested lim bs toAddress toPort w
+
+-- for an n-byte encoding the options are never longer than 2n + 16 bytes, so a room of that length is enough
+abbrev pub OptionsBound : Type 0
+OptionsBound =
+    (lim : Limits) (bs toAddress : Bytes) (toPort : ℕ) (w : Bytes) → Octets bs → optionsCall lim bs toAddress toPort ≡ write w
+    → (length w ≤ 2 * length bs + 16)
+    × ((n : ℕ) → 2 * length bs + 16 ≤ n → outcome (optionsCall lim bs toAddress toPort) n ≡ done (length w))
+
 -- ---- worked examples, by computing
 
 -- the starred rows of the table, one statement
 abbrev pub Starred : Type 0
 Starred = AllHold B starred
 
--- the remaining rows, the two slips, refusals with their places, the option examples and the IPv6 examples, one statement
+-- the remaining rows, the two slips, refusals with their places, the option examples, option bytes read back and the IPv6 examples,
+-- one statement
 pub record Examples : Type 0 where
   pub rows : AllHold B unstarred
   pub slipped : AllHold longBase slips
   pub order : map answeredRefusal refusals ≡ refusals
   pub options : map answeredRequest requests ≡ requests
+  pub codings : map answeredCoding codings ≡ codings
   pub ipv6 : map ipv6Printed addresses ≡ addresses

@@ -1,31 +1,29 @@
 -- The text of an accepted absolute input: what is known of its positions, and that the pieces are the text of the rules.
-use Prim.Native.Nat.{ℕ, _+_}
+use Prim.Native.Nat.{ℕ}
 use native.Mathlib.Omega.{arith}
-use mathlib.Core.Path.{_≡_, sym, ap, _∙_, subst}
-use mathlib.Core.Bool.{true, false, _||_}
+use mathlib.Core.Path.{_≡_, sym, ap, _∙_}
+use mathlib.Core.Bool.{true, false}
 use mathlib.Core.List.{List, _∷_, _++_, append-assoc}
 use mathlib.Core.Option.{Option, some}
 use lib.ListN.{length}
-use lib.Dec.{eqb}
 use Rattle.rules.specs.Bytes.{Bytes, Octets, colon, slash}
 use Rattle.rules.specs.Result.{refused, ok, given, _>>=_, BASE}
 use Rattle.rules.specs.Model.{Reference, limits, Cri, elements, absolute}
-use Rattle.rules.specs.Reader.{Slot, unset, set, HostAt, addressAt, labelsAt, OpeningAt, discardAt, discardAllAt, fullAt, Found, read}
+use Rattle.rules.specs.Reader.{Slot, unset, set, OpeningAt, discardAt, discardAllAt, fullAt, Found, read}
 use Rattle.rules.specs.Meaning.{meaning, readReference, readAbsolute}
-use Rattle.rules.specs.Valid.{GoodHost, GoodOpening}
+use Rattle.rules.specs.Valid.{GoodOpening}
 use Rattle.rules.specs.Text.{schemeText, authorityText, pathText, hierarchyText, uriText}
 use Rattle.rules.specs.Calls.{refuse, write, textCall}
-use Rattle.rules.proofs.Tools.{length-part}
 use Rattle.rules.proofs.Steps.{ok-at, bind-ok}
-use Rattle.rules.proofs.Authorities.{saidHost}
 use Rattle.rules.proofs.Openings.{saidOpening}
 use Rattle.rules.proofs.Reading.{said, meaning-said, canonical}
-use Rattle.rules.proofs.Standing.{read-size, HostStands, OpeningStands, TextsStand, stands}
-use Rattle.rules.proofs.Absolutes.{Absolute, absolute-is, withPath, absolute-same, text-ruled}
+use Rattle.rules.proofs.Standing.{read-size, OpeningStands, TextsStand, stands}
+use Rattle.rules.proofs.Absolutes.{Absolute, absolute-is, withPath, absolute-same, read-absolute, text-ruled}
 use Rattle.rules.proofs.TextBound.{read-bound}
 use Rattle.absolutes.specs.Bases.{isAbsolute}
 use Rattle.absolutes.proofs.Openings.{absolute-opening, relative-opening}
-use Rattle.uri_parts.specs.Pieces.{schemePiece, pathPiece, queryPiece, fragmentPiece, HostPrints, TextsPrint}
+use Rattle.uri_parts.specs.Pieces.{schemePiece, pathPiece, queryPiece, fragmentPiece, TextsPrint}
+use Rattle.uri_parts.proofs.Pieces.{host-prints}
 use Rattle.uri.specs.Texts.{originPiece, textPieces, textAt, OpeningPrints, Prints}
 
 -- ---- the pieces of an absolute reference are its text
@@ -51,10 +49,6 @@ pieces-text bs f c e =
 
 -- ---- what is known of the positions
 
-host-prints : (bs : Bytes) (h : HostAt) → HostStands bs h → GoodHost (saidHost bs h) → HostPrints bs h
-host-prints bs (addressAt at n) h g = (h, subst (λ (k : ℕ). (eqb k 4 || eqb k 16) ≡ true) (length-part bs at n h) (g .size))
-host-prints bs (labelsAt at n) h g = h .each
-
 opening-prints : (bs : Bytes) (o : OpeningAt) → OpeningStands bs o → GoodOpening (saidOpening bs o) → OpeningPrints bs o
 opening-prints bs (discardAt k) h g = tt
 opening-prints bs discardAllAt h g = tt
@@ -66,17 +60,13 @@ texts-print most bs (set at n) h = h .each
 
 -- ---- what the call rules
 
-read-absolute : (bs : Bytes) (f : Found) → read limits bs ≡ ok f → readAbsolute limits bs ≡ given (absolute (meaning bs f)) BASE 0
-unfolding readAbsolute readReference _>>=_
-read-absolute bs f e = rw e
-
 pub text-refused : (bs : Bytes) (n k : ℕ) → read limits bs ≡ refused n k → textCall limits bs ≡ refuse n
 unfolding readAbsolute readReference _>>=_
 text-refused bs n k e = text-ruled limits bs (refused n k) (rw e)
 
 pub text-relative : (bs : Bytes) (f : Found) → read limits bs ≡ ok f → isAbsolute (f .opening) ≡ false → textCall limits bs ≡ refuse BASE
 unfolding given
-text-relative bs f e t = text-ruled limits bs (refused BASE 0) (read-absolute bs f e ∙ ap (λ (o : Option Cri). given o BASE 0) (relative-opening bs f t))
+text-relative bs f e t = text-ruled limits bs (refused BASE 0) (read-absolute limits bs f e ∙ ap (λ (o : Option Cri). given o BASE 0) (relative-opening bs f t))
 
 -- of an absolute input
 module _ (bs : Bytes) (f : Found) (h : Octets bs) (e : read limits bs ≡ ok f) (t : isAbsolute (f .opening) ≡ true) where
@@ -88,7 +78,7 @@ module _ (bs : Bytes) (f : Found) (h : Octets bs) (e : read limits bs ≡ ok f) 
 
   read-says : readAbsolute limits bs ≡ ok cri-said
   unfolding given
-  read-says = read-absolute bs f e ∙ ap (λ (o : Option Cri). given o BASE 0) says
+  read-says = read-absolute limits bs f e ∙ ap (λ (o : Option Cri). given o BASE 0) says
 
   -- the text is written
   pub text-written : textCall limits bs ≡ write (textAt bs f)

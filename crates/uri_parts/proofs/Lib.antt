@@ -1,2 +1,2 @@
 -- The laws of the parts.
-mod Pieces
+pub mod Pieces

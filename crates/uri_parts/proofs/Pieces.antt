@@ -1,6 +1,6 @@
 -- What each part of a URI text is, by what stands at its place.
 use Prim.Native.Nat.{ℕ, _+_, _≤_}
-use mathlib.Core.Path.{_≡_, sym, ap, _∙_}
+use mathlib.Core.Path.{_≡_, sym, ap, _∙_, subst}
 use mathlib.Core.Bool.{true, _||_}
 use mathlib.Core.List.{[], _∷_, _++_, map}
 use mathlib.Core.Option.{Option, none, some}
@@ -12,12 +12,14 @@ use Rattle.rules.specs.Rules.{schemes, schemeIn}
 use Rattle.rules.specs.Reader.{contents, Slot, unset, set, HostAt, addressAt, labelsAt, SchemeAt, noScheme, numberAt, nameAt}
 use Rattle.rules.specs.Numeral.{decimal}
 use Rattle.rules.specs.Address.{ipv4Text, ipv6Text, leftBracket, rightBracket, addressText}
+use Rattle.rules.specs.Valid.{GoodHost}
 use Rattle.rules.specs.Text.{Label, Segment, Parameter, Fragment, escape, marked, entryName, schemeText, hostText, pathText, queryText}
 use Rattle.rules.proofs.Tools.{or-right, cond-yes, cond-no, length-part}
 use Rattle.rules.proofs.Slots.{saidTexts, saidText}
 use Rattle.rules.proofs.Authorities.{saidHost}
-use Rattle.rules.proofs.Openings.{saidScheme}
-use Rattle.uri_parts.specs.Pieces.{schemePiece, hostPiece, portPiece, pathPiece, queryPiece, fragmentPiece}
+use Rattle.rules.proofs.Openings.{no-scheme, saidScheme}
+use Rattle.rules.proofs.Standing.{HostStands}
+use Rattle.uri_parts.specs.Pieces.{schemePiece, hostPiece, portPiece, pathPiece, queryPiece, fragmentPiece, HostPrints}
 
 -- ---- scheme
 
@@ -27,8 +29,7 @@ named n m t e f = sym f ∙ ap (λ (n : ℕ). entryName (schemeIn schemes n)) (s
 
 -- no other number has a name
 pub no-name : (n : ℕ) → (n ≡ 0 → ⊥) → (n ≡ 1 → ⊥) → (n ≡ 6 → ⊥) → (n ≡ 7 → ⊥) → (n ≡ 8 → ⊥) → (n ≡ 9 → ⊥) → [] ≡ entryName (schemeIn schemes n)
-unfolding schemeIn schemes
-no-name n a b c d e f = simp (ne-eqb n 0 a, ne-eqb n 1 b, ne-eqb n 6 c, ne-eqb n 7 d, ne-eqb n 8 e, ne-eqb n 9 f)
+no-name n a b c d e f = ap entryName (sym (no-scheme n a b c d e f))
 
 module _ (bs : Bytes) where
   pub scheme-none : {x : SchemeAt} → x ≡ noScheme → [] ≡ schemePiece (saidScheme bs x)
@@ -67,6 +68,11 @@ module _ (bs : Bytes) where
   pub host-labels : {x : HostAt} {at n : ℕ} → x ≡ labelsAt at n → slash ∷ join dot (map (escape Label) (contents bs at n)) ≡ hostPiece (saidHost bs x)
   unfolding hostText
   host-labels e = rw e
+
+-- what is known of a host in an accepted input
+pub host-prints : (bs : Bytes) (h : HostAt) → HostStands bs h → GoodHost (saidHost bs h) → HostPrints bs h
+host-prints bs (addressAt at n) h g = (h, subst (λ (k : ℕ). (eqb k 4 || eqb k 16) ≡ true) (length-part bs at n h) (g .size))
+host-prints bs (labelsAt at n) h g = h .each
 
 pub port-none : {p : Option ℕ} → p ≡ none → [] ≡ portPiece p
 unfolding marked

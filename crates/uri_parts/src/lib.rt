@@ -109,7 +109,7 @@ fn address_length(s: &[u8], from: usize, n: usize) -> usize
 }
 
 // The text of an address of 4 or 16 bytes, the latter in brackets.
-fn put_address(room: &mut [u8], at: usize, s: &[u8], from: usize, n: usize) -> usize
+pub fn put_address(room: &mut [u8], at: usize, s: &[u8], from: usize, n: usize) -> usize
     requires { ⌜ (from + n ≤ length (now s)) × ((eqb n 4 || eqb n 16) ≡ true) ⌝ }
     requires { ⌜ at + length (addressText (part (now s) from n)) ≤ length (now room) ⌝ }
     ensures { λ r. ⌜ Wrote (now (room .entry)) at (addressText (part (now (s .entry)) from n)) (now (room .exit)) r ⌝ }

@@ -1,6 +1,8 @@
 -- `cbor::span_at` meets its contract.
+use Prim.Native.Nat.{_+_}
 use native.Mathlib.Omega.{arith}
-use Rattle.cbor.proofs.Heads.{width-most, item-head, span-small, span-sized}
+use denote.Ref.{now}
+use Rattle.cbor.proofs.Heads.{width-most, item-head, span-small, span-byte, width-byte, span-sized}
 use borrow.Author.Needs.{needs}
 use Rattle.cbor.proofs.span_at.Statement.{statement}
 use Rattle.cbor.proofs.span_at.Tie as tie
@@ -17,20 +19,46 @@ cast-t10 c = search needs
 returns : tie.Need-returns
 returns c = span-small _ _ (c .if1 .taken)
 
+add-t11 : tie.Need-add-t11
+add-t11 c =
+    let start = c .before .before .before .before in
+    omega (arith, item-head _ _ (start .pre), width-byte (now (start .args .s)) (start .args .at) (c .if2 .taken))
+
+shared-slice-read-t13 : tie.Need-shared-slice-read-t13
+shared-slice-read-t13 c =
+    let if2′ = c .before in
+    let start = if2′ .before .before .before .before in
+    omega (arith, item-head _ _ (start .pre), width-byte (now (start .args .s)) (start .args .at) (if2′ .if2 .taken))
+
+cast-t14 : tie.Need-cast-t14
+cast-t14 c =
+    let shared-slice-known2′ = c .before .before .before in
+    let start = shared-slice-known2′ .before .before in
+    omega (arith, shared-slice-known2′ .shared-slice-known2 .given (start .args .at + 1))
+
+returns-2 : tie.Need-returns-2
+returns-2 c =
+    let if2′ = c .before in
+    let start = if2′ .before .before .before .before in
+    span-byte _ _ (if2′ .if2 .taken) (omega (arith, item-head _ _ (start .pre), width-byte (now (start .args .s)) (start .args .at) (if2′ .if2 .taken)))
+
 width-of-requires : tie.Need-width-of-requires
-width-of-requires c κs = c .before .before .before .pre .info
+width-of-requires c κs = search needs
 
 number-at-requires : tie.Need-number-at-requires
 number-at-requires c κs =
-    let s = c .before .before .before .before in
+    let start = c .before .before .before .before .before in
     let w = c .width-of .ensures in
-    (omega (arith, w, item-head _ _ (s .pre)), omega (arith, w, width-most _ (s .pre .info)))
+    (omega (arith, w, item-head _ _ (start .pre)), omega (arith, w, width-most _ (start .pre .info)))
 
-add-t11 : tie.Need-add-t11
-add-t11 c = omega (arith, c .before .width-of .ensures, item-head _ _ (c .before .before .before .before .before .pre))
+add-t15 : tie.Need-add-t15
+add-t15 c =
+    let width-of′ = c .before in
+    let start = width-of′ .before .before .before .before .before in
+    omega (arith, width-of′ .width-of .ensures, item-head _ _ (start .pre))
 
-returns-2 : tie.Need-returns-2
-returns-2 c = span-sized _ _ _ _ (c .before .before .if1 .left) (c .before .width-of .ensures) (c .number-at .ensures)
+returns-3 : tie.Need-returns-3
+returns-3 c = span-sized _ _ _ _ (c .before .before .before .if1 .left) (c .before .width-of .ensures) (c .number-at .ensures)
 
 pub span-at-spec : {M : Type 1} → statement M
 span-at-spec =
@@ -40,7 +68,11 @@ span-at-spec =
     add-from
     cast-t10
     returns
+    add-t11
+    shared-slice-read-t13
+    cast-t14
+    returns-2
     width-of-requires
     number-at-requires
-    add-t11
-    returns-2)
+    add-t15
+    returns-3)

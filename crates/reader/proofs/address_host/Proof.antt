@@ -12,12 +12,12 @@ use borrow.Author.Needs.{needs}
 use Rattle.reader.proofs.address_host.Statement.{statement}
 use Rattle.reader.proofs.address_host.Tie as tie
 
-address-length-requires : tie.Need-address-length-requires
-address-length-requires c κs = search needs
+is-address-length-requires : tie.Need-is-address-length-requires
+is-address-length-requires c κs = search needs
 
 returns : tie.Need-returns
 unfolding addressHost
-returns c = need-no _ _ _ _ (sym (c .before .address-length .ensures) ∙ not-true _ (c .if1 .taken))
+returns c = need-no _ _ _ _ (sym (c .before .is-address-length .ensures) ∙ not-true _ (c .if1 .taken))
 
 sub-if2 : tie.Need-sub-if2
 sub-if2 c = search needs
@@ -28,7 +28,7 @@ returns-2 c =
     let l = c .before .before in
     let a = l .before .before .args in
     bind-refused _ _ _ _ (need-no _ _ _ _ (lt-leb (a .next + a .n) (length (now (a .s))) (omega arith)))
-    ∙ need-yes _ _ _ _ (sym (l .address-length .ensures) ∙ not-false _ (c .before .if1 .left))
+    ∙ need-yes _ _ _ _ (sym (l .is-address-length .ensures) ∙ not-false _ (c .before .if1 .left))
 
 add-port-at : tie.Need-add-port-at
 add-port-at c = search needs
@@ -50,7 +50,7 @@ returns-3 c =
     let a = l .before .before .args in
     bind-refused _ _ _ _ (ap namesIs (sym (c .before .k .given .1)) ∙ p .port-at .ensures)
     ∙ bind-ok _ _ _ (need-yes _ _ _ _ (le-leb (a .next + a .n) (length (now (a .s))) (omega arith)))
-    ∙ need-yes _ _ _ _ (sym (l .address-length .ensures) ∙ not-false _ (p .before .before .if1 .left))
+    ∙ need-yes _ _ _ _ (sym (l .is-address-length .ensures) ∙ not-false _ (p .before .before .if1 .left))
 
 returns-4 : tie.Need-returns-4
 unfolding addressHost readContent
@@ -60,13 +60,13 @@ returns-4 c =
     let a = l .before .before .args in
     bind-ok _ _ _ (ap namesIs (sym (c .before .port .given .1)) ∙ p .port-at .ensures)
     ∙ bind-ok _ _ _ (need-yes _ _ _ _ (le-leb (a .next + a .n) (length (now (a .s))) (omega arith)))
-    ∙ need-yes _ _ _ _ (sym (l .address-length .ensures) ∙ not-false _ (p .before .before .if1 .left))
+    ∙ need-yes _ _ _ _ (sym (l .is-address-length .ensures) ∙ not-false _ (p .before .before .if1 .left))
 
 pub address-host-spec : {M : Type 1} → statement M
 address-host-spec =
     tie.close
     (tie.spec
-    address-length-requires
+    is-address-length-requires
     returns
     sub-if2
     returns-2

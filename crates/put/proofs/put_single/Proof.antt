@@ -1,4 +1,4 @@
--- `put::put_part` meets its contract: what is left to write is what is left of the part.
+-- `put::put_single` meets its contract: what is left to write is what is left of the part.
 use Prim.Native.Nat.{_+_, _-_, _≤_}
 use native.Mathlib.Omega.{arith}
 use mathlib.Core.Path.{refl}
@@ -8,8 +8,8 @@ use denote.Ref.{now}
 use Rattle.rules.specs.Bytes.{part}
 use Rattle.rules.proofs.Tools.{length-part}
 use Rattle.put.proofs.Laws.{Left, Next, left-whole, next, next-room, next-wrote, last, wrote-one}
-use Rattle.put.proofs.put_part.Statement.{statement}
-use Rattle.put.proofs.put_part.Tie as tie
+use Rattle.put.proofs.put_single.Statement.{statement}
+use Rattle.put.proofs.put_single.Tie as tie
 
 abbrev Inv-loop : tie.InvT-loop
 Inv-loop room₀ at src from n end i₀ o₀ room i o = (i ≤ end) × Left room o (part src i (end - i)) room₀ at (part src from n)
@@ -59,7 +59,7 @@ returns c =
     let a = c .before .before .args in
     last (λ s. s) (λ x. x ∷ []) (λ x xs. refl) refl (now (a .src)) (c .before .loop .i) (a .from + a .n) (c .loop-test .left) (c .before .loop .inv .1)
 
-pub put-part-spec : {M : Type 1} → statement M
-put-part-spec =
+pub put-single-spec : {M : Type 1} → statement M
+put-single-spec =
     tie.close
     (tie.spec Inv-loop μ-loop add-end loop-holds shared-slice-read-room slice-write-room add-o add-i loop-less loop-again same-length returns)

@@ -1,0 +1,35 @@
+-- `option_coding::option_length` meets its contract.
+use native.Mathlib.Omega.{arith}
+use Rattle.option_coding.proofs.Laws.{extension-most, option-size}
+use borrow.Author.Needs.{needs}
+use Rattle.option_coding.proofs.option_length.Statement.{statement}
+use Rattle.option_coding.proofs.option_length.Tie as tie
+
+extension-length-requires : tie.Need-extension-length-requires
+extension-length-requires c κs = search needs
+
+add-result : tie.Need-add-result
+add-result c = omega (arith, c .extension-length .ensures, extension-most _ (c .before .pre .0))
+
+extension-length-requires-2 : tie.Need-extension-length-requires-2
+extension-length-requires-2 c κs = search needs
+
+add-result-2 : tie.Need-add-result-2
+add-result-2 c = omega (arith, c .before .extension-length .ensures, c .extension-length2 .ensures, extension-most _ (c .before .before .pre .0), extension-most _ (c .before .before .pre .1))
+
+add-result-3 : tie.Need-add-result-3
+add-result-3 c = omega (arith, c .before .extension-length .ensures, c .extension-length2 .ensures, extension-most _ (c .before .before .pre .0), extension-most _ (c .before .before .pre .1))
+
+returns : tie.Need-returns
+returns c value e = omega (arith, c .before .extension-length .ensures, c .extension-length2 .ensures, option-size (c .before .before .args .delta) (c .before .before .args .n) value e)
+
+pub option-length-spec : {M : Type 1} → statement M
+option-length-spec =
+    tie.close
+    (tie.spec
+    extension-length-requires
+    add-result
+    extension-length-requires-2
+    add-result-2
+    add-result-3
+    returns)

@@ -1,0 +1,81 @@
+-- `option_coding::put_texts` meets its contract: what is left to write is the options of the texts that are left.
+use native.Mathlib.Omega.{arith}
+use denote.Ref.{now}
+use lib.ListN.{length}
+use Rattle.rules.specs.Reader.{contents}
+use Rattle.rules.proofs.Texts.{Items}
+use Rattle.rules.proofs.Tools.{length-part}
+use Rattle.rules.proofs.Walk.{First, first, first-stands}
+use Rattle.put.proofs.Laws.{Left, left-all, left-done, next-room, next-wrote}
+use Rattle.option_coding.specs.Coded.{Small, AllSmall, coded}
+use Rattle.option_coding.proofs.Walk.{turn-small, turn-others, turn-next, none-coded}
+use borrow.Author.Needs.{needs}
+use Rattle.option_coding.proofs.put_texts.Statement.{statement}
+use Rattle.option_coding.proofs.put_texts.Tie as tie
+
+abbrev Inv-loop : tie.InvT-loop
+Inv-loop room₀ at s from count delta next₀ left₀ over₀ o₀ room next left over o =
+    Items s next left × AllSmall (contents s next left) × Small over × Left room o (coded over (contents s next left)) room₀ at (coded delta (contents s from count))
+
+abbrev μ-loop : tie.MeasureT-loop
+μ-loop room₀ at s from count delta next₀ left₀ over₀ o₀ room next left over o = left
+
+-- the text that the span is of
+turn : (c : tie.After-span-at Inv-loop μ-loop) → let l = c .before .before .loop in let a = c .before .before .before .before .before .args in
+    First (now (a .s)) (l .next) (l .left) (c .span-at .result .start) (c .span-at .result .length)
+turn c = first _ _ _ _ _ (c .before .loop-test .taken) (c .before .before .loop .inv .0) (c .span-at .ensures)
+
+loop-holds : tie.Need-loop-holds Inv-loop μ-loop
+loop-holds c = (c .before .before .pre .0 .0, c .before .before .pre .0 .1, c .before .before .pre .1 .0, left-all)
+
+span-at-requires : tie.Need-span-at-requires Inv-loop μ-loop
+span-at-requires c κs = let l = c .before .loop in first-stands _ (l .next) (l .left) (c .loop-test .taken) (l .inv .0)
+
+put-option-requires : tie.Need-put-option-requires Inv-loop μ-loop
+put-option-requires c κs =
+    let loop′ = c .before .before .before in
+    let start = loop′ .before .before .before in
+    let t = turn (c .before) in
+    let l = loop′ .loop in
+    ((omega (arith, l .inv .2, start .pre .1 .0), turn-small t (l .inv .1)), (t .inside, next-room (turn-next t (l .over) (l .inv .3)) (start .pre .1 .1)))
+
+add-next : tie.Need-add-next Inv-loop μ-loop
+add-next c = omega (arith, turn (c .before .before .before .before .before) .inside)
+
+sub-left : tie.Need-sub-left Inv-loop μ-loop
+sub-left c = search needs
+
+loop-less : tie.Need-loop-less Inv-loop μ-loop
+loop-less c = search needs
+
+loop-again : tie.Need-loop-again Inv-loop μ-loop
+loop-again c =
+    let put-option′ = c .before .before .before in
+    let loop′ = put-option′ .before .before .before .before in
+    let t = turn (c .before .before .before .before .before) in
+    let l = loop′ .loop in
+    (t .others, turn-others t (l .inv .1), omega arith, next-wrote (turn-next t (l .over) (l .inv .3)) (put-option′ .put-option .ensures))
+
+same-length : tie.Need-same-length Inv-loop μ-loop
+same-length c = c .before .loop .inv .3 .size
+
+returns : tie.Need-returns Inv-loop μ-loop
+returns c =
+    let l = c .before .loop in
+    left-done (rw (none-coded (l .over) (now (c .before .before .before .before .args .s)) (l .next) (l .left) (c .loop-test .left)) at (l .inv .3))
+
+pub put-texts-spec : {M : Type 1} → statement M
+put-texts-spec =
+    tie.close
+    (tie.spec
+    Inv-loop
+    μ-loop
+    loop-holds
+    span-at-requires
+    put-option-requires
+    add-next
+    sub-left
+    loop-less
+    loop-again
+    same-length
+    returns)

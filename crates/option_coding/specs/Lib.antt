@@ -1,0 +1,2 @@
+-- Options in a row, as a loop writes them.
+pub mod Coded

@@ -1,0 +1,167 @@
+// The values of the options of a request: made of what stands in an accepted input, or told by where they stand in it.
+ghost use Prim.Native.Nat.{_+_, _≤_, _<_};
+ghost use mathlib.Core.Path.{_≡_};
+ghost use mathlib.Core.Option.{Option·getD};
+ghost use lib.ListN.{length};
+ghost use Rattle.rules.specs.Bytes.{Bytes, dot, join};
+ghost use Rattle.rules.specs.Model.{elements, normalPath};
+ghost use Rattle.rules.specs.Options.{portBytes};
+ghost use Rattle.rules.specs.Reader.{contents};
+ghost use Rattle.rules.proofs.Slots.{saidTexts};
+ghost use Rattle.rules.proofs.Authorities.{saidHost};
+ghost use Rattle.rules.proofs.Texts.{Items};
+ghost use Rattle.put.specs.Wrote.{Wrote};
+ghost use Rattle.reader.specs.Code.{slotOf, hostOf, portOf};
+ghost use Rattle.option_values.specs.Values.{hostValue, portValue, defaultPort, dotted, Valued, Row, HostAsks, TextsAsk};
+use cbor::span_at;
+use put::put_big_endian;
+use put::put_byte;
+use put::put_part;
+use reader::HostAt;
+use reader::Port;
+use reader::Slot;
+use uri_parts::put_address;
+
+// The value of an option that a request has at most once: unset, or how many bytes it has. They stand at the start of a slice.
+pub enum Value {
+    Unset,
+    Is(usize),
+}
+
+// ---- Uri-Host
+
+// Each label after a ".".
+fn put_further_labels(room: &mut [u8], at: usize, s: &[u8], from: usize, count: usize) -> usize
+    requires { ⌜ Items (now s) from count ⌝ }
+    requires { ⌜ at + length (dotted (contents (now s) from count)) ≤ length (now room) ⌝ }
+    ensures { λ r. ⌜ Wrote (now (room .entry)) at (dotted (contents (now (s .entry)) from count)) (now (room .exit)) r ⌝ }
+{
+    let mut next = from;
+    let mut left = count;
+    let mut o = at;
+    while 0 < left {
+        let span = span_at(s, next);
+        let p = put_byte(room, o, b'.');
+        o = put_part(room, p, s, span.start, span.length);
+        next = span.start + span.length;
+        left -= 1;
+    }
+    o
+}
+
+// The labels joined by ".", from the start of the room on.
+fn put_labels(room: &mut [u8], s: &[u8], from: usize, count: usize) -> usize
+    requires { ⌜ Items (now s) from count × (0 < count) ⌝ }
+    requires { ⌜ length (join dot (contents (now s) from count)) ≤ length (now room) ⌝ }
+    ensures { λ r. ⌜ Wrote (now (room .entry)) 0 (join dot (contents (now (s .entry)) from count)) (now (room .exit)) r ⌝ }
+{
+    let span = span_at(s, from);
+    let p = put_part(room, 0, s, span.start, span.length);
+    put_further_labels(room, p, s, span.start + span.length, count - 1)
+}
+
+// The value of Uri-Host, made in the room: the joined labels, or the text of an address that is not the destination's.
+pub fn host_value(room: &mut [u8], s: &[u8], host: HostAt, address: &[u8]) -> Value
+    requires { ⌜ HostAsks (now s) (hostOf host) ⌝ }
+    requires { ⌜ 255 ≤ length (now room) ⌝ }
+    ensures { λ r. ⌜ Valued (now (room .exit)) r (hostValue (saidHost (now (s .entry)) (hostOf host)) (now (address .entry))) ⌝ }
+{
+    match host {
+        HostAt::Address(from, n) => {
+            if texts::same_at(s, from, n, address) {
+                return Value::Unset;
+            }
+            Value::Is(put_address(room, 0, s, from, n))
+        }
+        HostAt::Labels(from, n) => Value::Is(put_labels(room, s, from, n)),
+    }
+}
+
+// ---- Uri-Port
+
+// The default port of a scheme number, if it has one.
+pub fn default_port(n: u64) -> Port
+    ensures { λ r. ⌜ portOf r ≡ defaultPort n ⌝ }
+{
+    match n {
+        0 => Port::Is(5683),
+        1 => Port::Is(5684),
+        6 => Port::Is(5683),
+        7 => Port::Is(5684),
+        8 => Port::Is(80),
+        9 => Port::Is(443),
+        _ => Port::Unset,
+    }
+}
+
+// The port that is set, or else the default one.
+pub fn port_or(port: Port, default: u64) -> u64
+    ensures { λ r. ⌜ r ≡ Option·getD (portOf port) default ⌝ }
+{
+    match port {
+        Port::Unset => default,
+        Port::Is(p) => p,
+    }
+}
+
+// How many bytes a port has without leading zeros.
+fn port_width(p: u64) -> usize
+    ensures { λ r. ⌜ r ≡ length (portBytes p) ⌝ }
+{
+    if p == 0 {
+        return 0;
+    }
+    if p < 256 {
+        return 1;
+    }
+    2
+}
+
+// The value of Uri-Port, made in the room: a port that is not the destination's.
+pub fn port_value(room: &mut [u8], port: u64, destination: u64) -> Value
+    requires { ⌜ port ≤ 65535 ⌝ }
+    requires { ⌜ 2 ≤ length (now room) ⌝ }
+    ensures { λ r. ⌜ Valued (now (room .exit)) r (portValue port destination) ⌝ }
+{
+    if port == destination {
+        return Value::Unset;
+    }
+    Value::Is(put_big_endian(room, 0, port_width(port), port))
+}
+
+// ---- Uri-Path and Uri-Query
+
+// Texts that stand in a row: the position of the first, and their count.
+pub struct Run {
+    pub at: usize,
+    pub count: usize,
+}
+
+// The segments; none for a path of one empty segment.
+pub fn segments(s: &[u8], path: Slot) -> Run
+    requires { ⌜ TextsAsk (now s) (slotOf path) ⌝ }
+    ensures { λ r. ⌜ Row (now (s .entry)) (r .at) (r .count) (normalPath (elements (saidTexts (now (s .entry)) (slotOf path)))) ⌝ }
+{
+    match path {
+        Slot::Unset => Run { at: 0, count: 0 },
+        Slot::Set(at, n) => {
+            if n == 1 {
+                let span = span_at(s, at);
+                if span.length == 0 {
+                    return Run { at: at, count: 0 };
+                }
+            }
+            Run { at: at, count: n }
+        }
+    }
+}
+
+// The parameters.
+pub fn parameters(query: Slot) -> Run
+    ensures { λ r. ⌜ ((bs : Bytes) → TextsAsk bs (slotOf query) → Row bs (r .at) (r .count) (elements (saidTexts bs (slotOf query)))) ⌝ }
+{
+    match query {
+        Slot::Unset => Run { at: 0, count: 0 },
+        Slot::Set(at, n) => Run { at: at, count: n },
+    }
+}

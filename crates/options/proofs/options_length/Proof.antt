@@ -1,0 +1,74 @@
+-- `options::options_length` meets its contract.
+use native.Mathlib.Omega.{arith}
+use denote.Ref.{now}
+use Rattle.option_coding.proofs.Laws.{coded-most}
+use Rattle.options.proofs.Pieces.{value-most, pieces-sum}
+use borrow.Author.Needs.{needs}
+use Rattle.options.proofs.options_length.Statement.{statement}
+use Rattle.options.proofs.options_length.Tie as tie
+
+value-length-requires : tie.Need-value-length-requires
+value-length-requires c κs = search needs
+
+value-length-requires-2 : tie.Need-value-length-requires-2
+value-length-requires-2 c κs = search needs
+
+add-result : tie.Need-add-result
+add-result c =
+    let value-length′ = c .before in
+    let s = value-length′ .before .before .before .before in
+    let r = s .args .request in
+    let d = s .args .deltas in
+    let k = s .pre .1 .0 in
+    let m = s .pre .1 .1 in
+    omega (arith, value-most 3 (r .host) (omega arith) (k .host) (value-length′ .value-length .ensures), value-most (d .port) (r .port) (m .port) (k .port) (c .value-length2 .ensures))
+
+texts-length-requires : tie.Need-texts-length-requires
+texts-length-requires c κs = search needs
+
+add-result-2 : tie.Need-add-result-2
+add-result-2 c =
+    let value-length2′ = c .before in
+    let value-length′ = value-length2′ .before in
+    let s = value-length′ .before .before .before .before in
+    let r = s .args .request in
+    let d = s .args .deltas in
+    let k = s .pre .1 .0 in
+    let m = s .pre .1 .1 in
+    omega (arith, s .pre .0, value-most 3 (r .host) (omega arith) (k .host) (value-length′ .value-length .ensures), value-most (d .port) (r .port) (m .port) (k .port) (value-length2′ .value-length2 .ensures), c .texts-length .ensures, coded-most (d .path) (now (s .args .s)) (r .path .at) (r .path .count) (m .path) (k .path .0) (k .path .1))
+
+texts-length-requires-2 : tie.Need-texts-length-requires-2
+texts-length-requires-2 c κs = search needs
+
+add-result-3 : tie.Need-add-result-3
+add-result-3 c =
+    let texts-length′ = c .before in
+    let value-length2′ = texts-length′ .before in
+    let value-length′ = value-length2′ .before in
+    let s = value-length′ .before .before .before .before in
+    let r = s .args .request in
+    let d = s .args .deltas in
+    let k = s .pre .1 .0 in
+    let m = s .pre .1 .1 in
+    omega (arith, s .pre .0, value-most 3 (r .host) (omega arith) (k .host) (value-length′ .value-length .ensures), value-most (d .port) (r .port) (m .port) (k .port) (value-length2′ .value-length2 .ensures), texts-length′ .texts-length .ensures, coded-most (d .path) (now (s .args .s)) (r .path .at) (r .path .count) (m .path) (k .path .0) (k .path .1), c .texts-length2 .ensures, coded-most (d .query) (now (s .args .s)) (r .query .at) (r .query .count) (m .query) (k .query .0) (k .query .1))
+
+returns : tie.Need-returns
+returns c name number h p =
+    let texts-length′ = c .before in
+    let value-length2′ = texts-length′ .before in
+    let value-length′ = value-length2′ .before in
+    let s = value-length′ .before .before .before .before in
+    omega (arith, value-length′ .value-length .ensures name h, value-length2′ .value-length2 .ensures number p, texts-length′ .texts-length .ensures, c .texts-length2 .ensures, pieces-sum name number (now (s .args .s)) (s .args .request) (s .args .deltas))
+
+pub options-length-spec : {M : Type 1} → statement M
+options-length-spec =
+    tie.close
+    (tie.spec
+    value-length-requires
+    value-length-requires-2
+    add-result
+    texts-length-requires
+    add-result-2
+    texts-length-requires-2
+    add-result-3
+    returns)
