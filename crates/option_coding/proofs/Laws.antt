@@ -10,6 +10,7 @@ use Rattle.rules.specs.Bytes.{Bytes, part}
 use Rattle.rules.specs.Head.{headAt}
 use Rattle.rules.specs.Options.{nibble, extension, optionBytes}
 use Rattle.rules.specs.Reader.{endAt, spans, contents}
+use Rattle.rules.proofs.OptionsBack.{option-length}
 use Rattle.rules.proofs.Texts.{contentAt, Items}
 use Rattle.rules.proofs.Tools.{cond-split, length-part}
 use Rattle.option_coding.specs.Coded.{Small, AllSmall, coded}
@@ -50,8 +51,7 @@ extension-most n s =
 
 module _ (delta n : ℕ) (v : Bytes) (e : length v ≡ n) where
   pub option-size : length (optionBytes delta v) ≡ 1 + length (extension delta) + length (extension n) + n
-  unfolding optionBytes
-  option-size = omega (arith, length-append (extension delta ++ extension (length v)) v, length-append (extension delta) (extension (length v)), ap (λ (k : ℕ). length (extension k)) e)
+  option-size = omega (arith, option-length delta v, ap (λ (k : ℕ). length (extension k)) e)
 
   pub option-pieces : {x y : ℕ} → x ≡ nibble delta → y ≡ nibble n → ((x * 16 + y) ∷ []) ++ (extension delta ++ (extension n ++ v)) ≡ optionBytes delta v
   unfolding optionBytes
