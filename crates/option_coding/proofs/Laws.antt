@@ -1,12 +1,12 @@
 -- What an option is made of, and how long it is.
 use Prim.Native.Nat.{ℕ, zero, suc, _+_, _*_, _-_, _≤_, _<_}
 use native.Mathlib.Omega.{arith}
-use mathlib.Core.Path.{_≡_, refl, sym, ap, _∙_}
+use mathlib.Core.Path.{_≡_, refl, ap}
 use mathlib.Core.List.{[], _∷_, _++_, append-assoc}
 use lib.ListN.{length, length-append}
 use lib.Dec.{ltb}
 use borrow.Author.Tests.{ltb-true, ltb-false, lt-ltb, le-ltb}
-use Rattle.rules.specs.Bytes.{Bytes, part}
+use Rattle.rules.specs.Bytes.{Bytes}
 use Rattle.rules.specs.Head.{headAt}
 use Rattle.rules.specs.Options.{nibble, extension, optionBytes}
 use Rattle.rules.specs.Reader.{endAt, spans, contents}

@@ -1,14 +1,14 @@
 -- What the values are, by what stands at their places.
-use Prim.Native.Nat.{ℕ, zero, suc, _+_, _-_, _/_, _%_, _≤_, _<_}
+use Prim.Native.Nat.{ℕ, zero, suc, _+_, _-_, _%_, _≤_, _<_}
 use native.Mathlib.Omega.{arith}
 use mathlib.Core.Path.{_≡_, refl, sym, ap, _∙_}
 use mathlib.Core.Bool.{true, false}
-use mathlib.Core.List.{List, [], _∷_, _++_, map}
+use mathlib.Core.List.{List, [], _∷_, _++_}
 use mathlib.Core.Option.{Option, none, some, Option·map}
 use lib.ListN.{length, drop, length-append}
 use lib.Seq.{take-at}
 use lib.Dec.{ltb, eqb}
-use borrow.Author.Tests.{ltb-true, ltb-false, eq-eqb, ne-eqb, lt-ltb, le-ltb}
+use borrow.Author.Tests.{ltb-true, eq-eqb, ne-eqb, lt-ltb, le-ltb}
 use Rattle.rules.specs.Bytes.{Bytes, part, bigEndian, dot, same, concat, join}
 use Rattle.rules.specs.Model.{number, elements, normalPath}
 use Rattle.rules.specs.Rules.{SchemeEntry, schemes, schemeIn}
@@ -16,17 +16,16 @@ use Rattle.rules.specs.Address.{addressText}
 use Rattle.rules.specs.Options.{portBytes}
 use Rattle.rules.specs.Reader.{spans, contents, Slot, unset, set, HostAt, addressAt, labelsAt}
 use Rattle.rules.proofs.Escapes.{join-each}
-use Rattle.rules.proofs.Tools.{cond-split, cond-yes, cond-no, length-part}
+use Rattle.rules.proofs.Tools.{cond-split, length-part}
 use Rattle.rules.proofs.Slots.{saidTexts}
 use Rattle.rules.proofs.Authorities.{saidHost}
 use Rattle.rules.proofs.Openings.{no-scheme}
 use Rattle.rules.proofs.OptionsBack.{default-port}
 use Rattle.rules.proofs.Steps.{none-some}
-use Rattle.rules.proofs.Texts.{Items}
 use Rattle.rules.proofs.Walk.{First, none-left}
 use Rattle.put.specs.Wrote.{Wrote}
 use Rattle.put.proofs.Laws.{wrote-stands, wrote-length}
-use Rattle.option_values.specs.Values.{hostValue, portValue, defaultPort, dotted, HostAsks, TextsAsk, valueIn, Inside, SmallValue, Valued, Row}
+use Rattle.option_values.specs.Values.{hostValue, portValue, defaultPort, dotted, TextsAsk, Valued, Row}
 use Rattle.option_values.specs.declared.Value.the-variants as ValueV
 
 -- ---- a value that was written
@@ -37,7 +36,7 @@ valued-none e = record { says = e; inside = tt; small = tt }
 pub valued-wrote : {a b w : Bytes} {v : Option Bytes} {k : ℕ} → some w ≡ v → length w ≤ length a → length w ≤ 255 → Wrote a 0 w b k → Valued b (ValueV.Is k) v
 valued-wrote {a} {b} {w} {v} {k} e h s p =
     record {
-      says = ap some (ap (λ (l : Bytes). part l 0 k) refl ∙ take-written) ∙ e;
+      says = ap some take-written ∙ e;
       inside = omega (arith, p .place, wrote-length p);
       small = omega (arith, p .place);
     }

@@ -84,15 +84,17 @@ abbrev one : ℕ → Option Bytes → List CoapOption
 one n none = []
 one n (some v) = option n v ∷ []
 
-abbrev given : Option Bytes → Bool
-given none = false
-given (some v) = true
+-- whether it is set
+abbrev present : Option Bytes → Bool
+present none = false
+present (some v) = true
 
-abbrev several : List Bytes → Bool
-several ts = ltb 0 (length ts)
+-- whether there is a text
+abbrev anyText : List Bytes → Bool
+anyText ts = ltb 0 (length ts)
 
 -- before other options
-one-from : (b n : ℕ) (v : Option Bytes) (os : List CoapOption) → valueCoded (n - b) v ++ optionsFrom (numberAfter b n (given v)) os ≡ optionsFrom b (one n v ++ os)
+one-from : (b n : ℕ) (v : Option Bytes) (os : List CoapOption) → valueCoded (n - b) v ++ optionsFrom (numberAfter b n (present v)) os ≡ optionsFrom b (one n v ++ os)
 unfolding optionsFrom
 one-from b n none os = refl
 one-from b n (some v) os = refl
@@ -102,21 +104,21 @@ unfolding optionsFrom coded
 same-from n [] os = refl
 same-from n (t ∷ ts) os = append-assoc (optionBytes 0 t) (coded 0 ts) (optionsFrom n os) ∙ rw (sub-self n, same-from n ts os)
 
-texts-from : (b n : ℕ) (ts : List Bytes) (os : List CoapOption) → coded (n - b) ts ++ optionsFrom (numberAfter b n (several ts)) os ≡ optionsFrom b (map (option n) ts ++ os)
+texts-from : (b n : ℕ) (ts : List Bytes) (os : List CoapOption) → coded (n - b) ts ++ optionsFrom (numberAfter b n (anyText ts)) os ≡ optionsFrom b (map (option n) ts ++ os)
 unfolding optionsFrom coded
 texts-from b n [] os = refl
 texts-from b n (t ∷ ts) os =
     rw (lt-ltb 0 (length (t ∷ ts)) (omega arith)) (append-assoc (optionBytes (n - b) t) (coded 0 ts) (optionsFrom n os) ∙ rw (same-from n ts os))
 
 -- the four sorts of options
-all-from : (h p : Option Bytes) (ss qs : List Bytes) → let a = numberAfter 0 3 (given h) in let b = numberAfter a 7 (given p) in let c = numberAfter b 11 (several ss) in
+all-from : (h p : Option Bytes) (ss qs : List Bytes) → let a = numberAfter 0 3 (present h) in let b = numberAfter a 7 (present p) in let c = numberAfter b 11 (anyText ss) in
     valueCoded 3 h ++ (valueCoded (7 - a) p ++ (coded (11 - b) ss ++ coded (15 - c) qs))
     ≡ optionsFrom 0 (one 3 h ++ one 7 p ++ map (option 11) ss ++ map (option 15) qs)
 unfolding optionsFrom
 all-from h p ss qs =
-    let a : ℕ = numberAfter 0 3 (given h) in
-    let b : ℕ = numberAfter a 7 (given p) in
-    let c : ℕ = numberAfter b 11 (several ss) in
+    let a : ℕ = numberAfter 0 3 (present h) in
+    let b : ℕ = numberAfter a 7 (present p) in
+    let c : ℕ = numberAfter b 11 (anyText ss) in
     let S : List CoapOption = map (option 11) ss in
     let Q : List CoapOption = map (option 15) qs in
     let query : coded (15 - c) qs ≡ optionsFrom c Q = sym (append-nil (coded (15 - c) qs)) ∙ texts-from c 15 qs [] ∙ ap (optionsFrom c) (append-nil Q) in
@@ -134,9 +136,9 @@ port-one : (p to : ℕ) → one 7 (portValue p to) ≡ uriPort p to
 unfolding portValue uriPort
 port-one p to = by-test (λ t. one 7 (cond t none (some (portBytes p))) ≡ cond t [] (option 7 (portBytes p) ∷ [])) (eqb p to) (λ e. refl) (λ e. refl)
 
-set-given : (src : Bytes) (v : Value) → isSet v ≡ given (valueIn src v)
-set-given src ValueV.Unset = refl
-set-given src (ValueV.Is n) = refl
+set-present : (src : Bytes) (v : Value) → isSet v ≡ present (valueIn src v)
+set-present src ValueV.Unset = refl
+set-present src (ValueV.Is n) = refl
 
 -- ---- a request whose values and texts were found
 
@@ -145,7 +147,7 @@ module _ (name number bs : Bytes) (r : Request) (d : Deltas) (is : DeltasAre (is
       piecesAt name number bs r d ≡ optionsFrom 0 (one 3 (valueIn name (r .host)) ++ one 7 (valueIn number (r .port)) ++ map (option 11) S ++ map (option 15) Q)
   pieces-from =
       let n : r .path .count ≡ length (contents bs (r .path .at) (r .path .count)) = sym (length-contents bs (r .path .at) (r .path .count)) in
-      rw (is .port, is .path, is .query, set-given name (r .host), set-given number (r .port), ap (ltb 0) n)
+      rw (is .port, is .path, is .query, set-present name (r .host), set-present number (r .port), ap (ltb 0) n)
       (all-from (valueIn name (r .host)) (valueIn number (r .port)) (contents bs (r .path .at) (r .path .count)) (contents bs (r .query .at) (r .query .count)))
 
   module _ (host : HostAt) (port : ℕ) (path query : Slot) (to : Bytes) (toPort : ℕ)

@@ -2,7 +2,7 @@
 use Prim.Native.Nat.{ℕ, _-_, _≤_}
 use mathlib.Core.Path.{_≡_}
 use mathlib.Core.Bool.{Bool, true, false, cond}
-use mathlib.Core.List.{List, [], _∷_, _++_, map}
+use mathlib.Core.List.{[], _++_, map}
 use mathlib.Core.Option.{Option, none, some, Option·getD}
 use lib.ListN.{length}
 use Rattle.rules.specs.Bytes.{Bytes}
@@ -15,7 +15,7 @@ use Rattle.rules.proofs.Slots.{saidTexts}
 use Rattle.rules.proofs.Authorities.{saidHost, GoodPort}
 use Rattle.rules.proofs.Texts.{Items}
 use Rattle.option_coding.specs.Coded.{Small, AllSmall, coded}
-use Rattle.option_values.specs.Values.{defaultPort, HostAsks, TextsAsk, valueIn, Inside, SmallValue}
+use Rattle.option_values.specs.Values.{defaultPort, HostAsks, TextsAsk, valueIn, SmallValue}
 use Rattle.option_values.specs.declared.Value.{Value}
 use Rattle.option_values.specs.declared.Value.the-variants as ValueV
 use Rattle.options.specs.declared.Request.{Request}

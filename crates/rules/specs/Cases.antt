@@ -228,8 +228,8 @@ pub record Coding : Type 0 where
   pub options : Option (List CoapOption)
 
 -- the bytes code these options
-abbrev pub coded : Bytes → List CoapOption → Coding
-coded bs os = record { input = bs; options = some os }
+abbrev pub codes : Bytes → List CoapOption → Coding
+codes bs os = record { input = bs; options = some os }
 
 -- the bytes are a fault
 abbrev pub fault : String → Coding
@@ -243,12 +243,12 @@ answeredCoding c = record { input = c .input; options = readOptions (c .input) }
 unfoldable pub codings : List Coding
 codings =
     -- no option; the second row of 11.2; a delta of 15, without and with a length of 13 or more; the largest number
-    coded [] []
-    ∷ coded (hex "72 F0 B0 4B" ++ ascii ".well-known" ++ hex "04" ++ ascii "core")
+    codes [] []
+    ∷ codes (hex "72 F0 B0 4B" ++ ascii ".well-known" ++ hex "04" ++ ascii "core")
     (option 7 (hex "F0 B0") ∷ option 11 (ascii ".well-known") ∷ option 11 (ascii "core") ∷ [])
-    ∷ coded (hex "D1 02 61") (option 15 (ascii "a") ∷ [])
-    ∷ coded (hex "DD 02 00" ++ ascii "temperature=1") (option 15 (ascii "temperature=1") ∷ [])
-    ∷ coded (hex "E0 FE F2") (option 65535 [] ∷ [])
+    ∷ codes (hex "D1 02 61") (option 15 (ascii "a") ∷ [])
+    ∷ codes (hex "DD 02 00" ++ ascii "temperature=1") (option 15 (ascii "temperature=1") ∷ [])
+    ∷ codes (hex "E0 FE F2") (option 65535 [] ∷ [])
     -- a larger number, at once and by a second option
     ∷ fault "E0 FE F3"
     ∷ fault "E0 FE F2 10"

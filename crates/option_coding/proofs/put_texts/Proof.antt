@@ -4,7 +4,6 @@ use denote.Ref.{now}
 use lib.ListN.{length}
 use Rattle.rules.specs.Reader.{contents}
 use Rattle.rules.proofs.Texts.{Items}
-use Rattle.rules.proofs.Tools.{length-part}
 use Rattle.rules.proofs.Walk.{First, first, first-stands}
 use Rattle.put.proofs.Laws.{Left, left-all, left-done, next-room, next-wrote}
 use Rattle.option_coding.specs.Coded.{Small, AllSmall, coded}

@@ -46,7 +46,7 @@ span-at-requires : tie.Need-span-at-requires Inv-loop μ-loop
 span-at-requires c κs = let l = c .before .loop in first-stands _ (l .next) (l .left) (c .loop-test .taken) (l .inv .0)
 
 option-length-requires : tie.Need-option-length-requires Inv-loop μ-loop
-option-length-requires c κs = let t = turn c in (c .before .before .loop .inv .2, turn-small t (c .before .before .loop .inv .1))
+option-length-requires c κs = let t = turn c in (omega (arith, c .before .before .loop .inv .2), turn-small t (c .before .before .loop .inv .1))
 
 add-total : tie.Need-add-total Inv-loop μ-loop
 add-total c = omega (arith, fits c)

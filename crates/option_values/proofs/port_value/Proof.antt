@@ -1,6 +1,5 @@
 -- `option_values::port_value` meets its contract.
 use native.Mathlib.Omega.{arith}
-use denote.Ref.{now}
 use Rattle.put.proofs.Laws.{wrote-as}
 use Rattle.rules.proofs.OptionsBack.{port-two}
 use Rattle.option_values.proofs.Laws.{valued-none, valued-wrote, port-big, port-same, port-other}
