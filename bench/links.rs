@@ -255,6 +255,10 @@ pub fn named(n: usize, labels: usize) -> Vec<Vec<u8>> {
         .collect()
 }
 
+// The lengths and the numbers of segments that are measured.
+pub const SIZES: [usize; 8] = [8, 16, 32, 64, 128, 256, 512, 1024];
+pub const SEGMENTS: [usize; 7] = [0, 1, 2, 4, 8, 16, 32];
+
 // An absolute link of at most so many bytes, and few less: no path at 8 bytes, else one of segments of 7 bytes, or of 32 longer ones.
 pub fn sized(size: usize) -> Vec<u8> {
     let opening = vec![vec![0x20], vec![0x81, 0x44, 198, 51, 100, 1]];

@@ -1,4 +1,5 @@
 // The options of requests.
+use crate::links::{SEGMENTS, SIZES};
 use crate::{agree, compare, links, Call, Random};
 use compare::options::{options, ENOUGH};
 use compare::reader::{self, Authority, Host, Opening, Scheme};
@@ -103,8 +104,6 @@ fn sized(size: usize) -> Vec<Vec<u8>> {
 }
 
 pub fn measure() {
-    const SIZES: [usize; 8] = [8, 16, 32, 64, 128, 256, 512, 1024];
-    const SEGMENTS: [usize; 7] = [0, 1, 2, 4, 8, 16, 32];
     const LABELS: [usize; 4] = [1, 2, 4, 8];
     let segmented = |n| links::segmented(crate::inputs(), n);
     let named = |n| links::named(crate::inputs(), n);

@@ -1,4 +1,5 @@
 // URI texts: of links, and of references resolved against a base.
+use crate::links::{SEGMENTS, SIZES};
 use crate::{agree, compare, links, resolve, room, Call};
 use compare::uri_text::{longest, uri_text};
 
@@ -82,12 +83,15 @@ fn exact(links: Vec<Vec<u8>>) -> Vec<Input> {
         .collect()
 }
 
-const SIZES: [usize; 7] = [16, 32, 64, 128, 256, 512, 1024];
+fn segmented(segments: usize) -> Vec<Vec<u8>> {
+    links::segmented(crate::inputs(), segments)
+}
 
 fn measure_in(lend: fn(Vec<Vec<u8>>) -> Vec<Input>) {
     compare("mixed links", &[10_000], |n| lend(links::mixed(n)), &CALLS);
     compare("escaped links", &[4096], |n| lend(links::escaped(n)), &CALLS);
     compare("IPv6 links", &[4096], |n| lend(links::addressed(n)), &CALLS);
+    compare("segments", &SEGMENTS, |n| lend(segmented(n)), &CALLS);
     compare("bytes of a link", &SIZES, |n| lend(sized(n)), &CALLS);
 }
 
@@ -95,7 +99,7 @@ pub fn measure() {
     for pair in &links::pairs(10_000) {
         agree(pair, &BOTH_WRITTEN);
     }
-    let inputs = [links::mixed(10_000), links::escaped(4096), links::addressed(4096), SIZES.map(sized).concat()].concat();
+    let inputs = [links::mixed(10_000), links::escaped(4096), links::addressed(4096), SEGMENTS.map(segmented).concat(), SIZES.map(sized).concat()].concat();
     for link in roomy(inputs.clone()).iter().chain(&exact(inputs)) {
         agree(link, &WRITTEN);
     }

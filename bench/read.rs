@@ -47,12 +47,15 @@ fn requests(n: usize) -> Vec<Input> {
 
 pub fn measure() {
     let sized = |size: usize| vec![links::sized(size); 64];
-    for input in links::mixed(10_000).iter().chain(&requests(10_000)).chain(&sized(1024)) {
+    let segmented = |n| links::segmented(crate::inputs(), n);
+    let inputs = [links::mixed(10_000), requests(10_000), links::SEGMENTS.map(segmented).concat(), links::SIZES.map(sized).concat()].concat();
+    for input in &inputs {
         agree(input, &CALLS);
         agree(input, &SEGMENTS);
     }
     println!("read: the numbers and the segments agree");
     compare("mixed links", &[10_000], links::mixed, &CALLS);
     compare("requests", &[10_000], requests, &CALLS);
-    compare("bytes of a link", &[16, 32, 64, 128, 256, 512, 1024], sized, &CALLS);
+    compare("segments", &links::SEGMENTS, segmented, &CALLS);
+    compare("bytes of a link", &links::SIZES, sized, &CALLS);
 }

@@ -1,4 +1,5 @@
 // References resolved against a base.
+use crate::links::{SEGMENTS, SIZES};
 use crate::{agree, compare, links, room, Call};
 use compare::resolver;
 
@@ -32,17 +33,27 @@ fn written(call: fn(&Input) -> u64, pair: &Input) -> (u64, Vec<u8>) {
 
 const WRITTEN: [Call<Input, (u64, Vec<u8>)>; 2] = [("rattle", |pair| written(rattle, pair)), ("rust", |pair| written(rust, pair))];
 
-// A base of so many bytes, and a reference that drops its last segment and appends one.
+// With a reference that drops the last segment and appends one.
+fn with_reference(bases: Vec<Vec<u8>>) -> Vec<Input> {
+    bases.into_iter().map(|base| (base, b"\x82\x01\x81\x67segment".to_vec())).collect()
+}
+
+// A base of so many bytes.
 fn sized(size: usize) -> Vec<Input> {
-    vec![(links::sized(size), b"\x82\x01\x81\x67segment".to_vec()); 64]
+    with_reference(vec![links::sized(size); 64])
+}
+
+// Bases of so many segments.
+fn segmented(segments: usize) -> Vec<Input> {
+    with_reference(links::segmented(crate::inputs(), segments))
 }
 
 pub fn measure() {
-    const SIZES: [usize; 7] = [16, 32, 64, 128, 256, 512, 1024];
-    for pair in links::pairs(10_000).iter().chain(&SIZES.map(sized).concat()) {
+    for pair in links::pairs(10_000).iter().chain(&SIZES.map(sized).concat()).chain(&SEGMENTS.map(segmented).concat()) {
         agree(pair, &WRITTEN);
     }
     println!("resolve: numbers, lengths and rooms agree");
     compare("mixed pairs", &[10_000], links::pairs, &CALLS);
+    compare("segments of a base", &SEGMENTS, segmented, &CALLS);
     compare("bytes of a base", &SIZES, sized, &CALLS);
 }

@@ -1,4 +1,5 @@
 // Links read, and written again from the components that reading reports.
+use crate::links::SIZES;
 use crate::{agree, compare, links, room, Call};
 use compare::reader::{self, Reference, Texts};
 use compare::writer::{self, Components, Span};
@@ -84,10 +85,10 @@ const WRITTEN: [Call<Input, Vec<u8>>; 2] = [("rattle", |s| written(rattle, s)), 
 
 pub fn measure() {
     let sized = |size: usize| vec![links::sized(size); 64];
-    for input in links::mixed(10_000).iter().chain(&sized(1024)) {
+    for input in links::mixed(10_000).iter().chain(&SIZES.map(sized).concat()) {
         agree(input, &WRITTEN);
     }
     println!("write: what is written agrees");
     compare("mixed links", &[10_000], links::mixed, &CALLS);
-    compare("bytes of a link", &[16, 32, 64, 128, 256, 512, 1024], sized, &CALLS);
+    compare("bytes of a link", &SIZES, sized, &CALLS);
 }

@@ -86,10 +86,23 @@ fn input(random: &mut Random) -> Input {
             damage::append(random, &mut input.bytes);
             input
         }
-        700..970 => {
+        700..840 => {
             let slips = random.pick(&[0, 0, 0, 1]);
             let mut made = reference::reference(random, slips);
             damage::damage(random, &mut made.encoded);
+            Input::of(made)
+        }
+        840..880 => Input::of(reference::not_utf8(random)),
+        880..960 => {
+            let mut made = reference::reference(random, 0);
+            damage::damage_one_head(random, &mut made.encoded);
+            Input::of(made)
+        }
+        960..970 => {
+            let (mut made, ninth) = reference::nine_labels(random);
+            if random.chance(70) {
+                damage::damage_head_at(random, &mut made.encoded.bytes, ninth);
+            }
             Input::of(made)
         }
         970..973 => Input::of_bytes(long_input(random)),

@@ -147,9 +147,10 @@ fn same_call(words: &mut Words) -> Answer {
     let first = text_of(&words.bytes()?);
     let second = text_of(&words.bytes()?);
     let number = |text: &Result<_, u8>| *text.as_ref().err().unwrap_or(&0);
-    let same = match first.is_ok() && first == second {
-        true => "equal",
-        false => "different",
+    let same = if first.is_ok() && first == second {
+        "equal"
+    } else {
+        "different"
     };
     Ok(format!("{} {} {same}", number(&first), number(&second)))
 }
@@ -187,9 +188,10 @@ fn written(length: usize, call: impl FnOnce(&mut [u8]) -> Result<usize, u8>) -> 
         Ok(length) => (0, length),
         Err(number) => (number, 0),
     };
-    let kept = match room[length..] == before[length..] {
-        true => "kept",
-        false => "touched",
+    let kept = if room[length..] == before[length..] {
+        "kept"
+    } else {
+        "touched"
     };
     format!("{number} {length} {} {kept}", hex(&room[..length]))
 }

@@ -53,11 +53,12 @@ pub fn compare(
     });
     let status = child.wait().map_err(|e| e.to_string())?;
     outcome?;
-    match status.success() {
-        true => Ok(()),
-        false => Err(format!(
+    if status.success() {
+        Ok(())
+    } else {
+        Err(format!(
             "all answers are equal, but the program ended with {status}"
-        )),
+        ))
     }
 }
 
@@ -104,8 +105,9 @@ fn compare_answers(output: ChildStdout, cases: impl Iterator<Item = Case>) -> Re
     }
     let mut extra = Vec::new();
     output.read_to_end(&mut extra).map_err(|e| e.to_string())?;
-    match extra.is_empty() {
-        true => Ok(()),
-        false => Err(format!("after the last answer: {}", extra.escape_ascii())),
+    if extra.is_empty() {
+        Ok(())
+    } else {
+        Err(format!("after the last answer: {}", extra.escape_ascii()))
     }
 }

@@ -142,9 +142,10 @@ impl Print for Written<'_> {
             return self.plain(text.as_bytes());
         }
         for byte in text.bytes() {
-            match place.is_bare(byte) {
-                true => self.plain(&[byte]),
-                false => self.plain(&ESCAPED[usize::from(byte)]),
+            if place.is_bare(byte) {
+                self.plain(&[byte]);
+            } else {
+                self.plain(&ESCAPED[usize::from(byte)]);
             }
         }
     }

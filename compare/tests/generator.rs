@@ -1,5 +1,8 @@
 //! That the requests made from a seed are the same, and that they are not dull.
 
+mod answered;
+
+use answered::{requests_of, unhex, Words, ANSWERED, COUNT};
 use compare::generate::Generator;
 use compare::lines;
 use compare::options::{options, ENOUGH};
@@ -7,35 +10,9 @@ use compare::reader::{read, Discard, Host, Opening, Reference, Scheme, Texts};
 use compare::resolver::resolve;
 use compare::uri_text::{longest, uri_text};
 use std::collections::BTreeMap;
-use std::sync::LazyLock;
-
-const COUNT: usize = 90_000;
 
 fn requests(seed: u64) -> impl Iterator<Item = Vec<u8>> {
     Generator::new(seed).take(COUNT)
-}
-
-/// The requests of a seed, and their answers.
-static ANSWERED: LazyLock<Vec<(Vec<u8>, String)>> = LazyLock::new(|| {
-    let answered = |request: Vec<u8>| {
-        let answer = lines::answer(&request);
-        (request, answer)
-    };
-    requests(1).map(answered).collect()
-});
-
-type Words = Vec<&'static str>;
-
-/// The words of each line that is a request of a call, and those of its answer.
-fn requests_of(call: &str) -> impl Iterator<Item = (Words, Words)> + '_ {
-    ANSWERED
-        .iter()
-        .filter(move |(request, _)| lines::call(request) == Some(call))
-        .filter(|(_, answer)| !answer.starts_with("? "))
-        .map(|(request, answer)| {
-            let request = str::from_utf8(request).expect("a request is ASCII");
-            (request.split(' ').collect(), answer.split(' ').collect())
-        })
 }
 
 /// How often each word begins the answers to the requests of each call.
@@ -119,12 +96,6 @@ fn accepted() -> Vec<Vec<u8>> {
     requests_of("read")
         .map(|(words, _)| unhex(words[1]))
         .filter(|input| read(input).is_ok())
-        .collect()
-}
-
-fn unhex(word: &str) -> Vec<u8> {
-    (0..word.len() / 2)
-        .map(|i| u8::from_str_radix(&word[2 * i..2 * i + 2], 16).expect("digits"))
         .collect()
 }
 

@@ -168,9 +168,10 @@ fn escaped(place: usize, text: &[u8]) -> String {
         .map(|&byte| {
             let character = char::from(byte);
             let bare = LETTERS_AND_DIGITS.contains(character) || BARE[place].contains(character);
-            match bare && byte.is_ascii() {
-                true => character.to_string(),
-                false => format!("%{byte:02X}"),
+            if bare && byte.is_ascii() {
+                character.to_string()
+            } else {
+                format!("%{byte:02X}")
             }
         })
         .collect()
@@ -436,7 +437,7 @@ struct Items {
 fn items(input: &[u8]) -> Option<Items> {
     let reference = read(input).ok()?;
     let (scheme, authority) = reference.absolute()?;
-    let owned = |texts: &[&str]| texts.iter().map(|text| text.to_string()).collect();
+    let owned = |texts: &[&str]| texts.iter().map(std::string::ToString::to_string).collect();
     let mut path: Vec<String> = reference.path.as_deref().map(owned).unwrap_or_default();
     if path == [""] {
         path.clear();

@@ -207,9 +207,10 @@ fn default_ports() {
         let option = [&[0x70 + value.len() as u8], &value[..]].concat();
         for input in [left_off, written] {
             for port in [0, 80, 443, 5682, 5683, 5684, 5685, 65_535] {
-                let expected = match usize::from(port) == default {
-                    true => vec![],
-                    false => option.clone(),
+                let expected = if usize::from(port) == default {
+                    vec![]
+                } else {
+                    option.clone()
                 };
                 assert_eq!(asked(&input, &bytes("01020304"), port), Ok(expected));
             }

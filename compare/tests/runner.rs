@@ -1,5 +1,7 @@
 //! That the program `compare` finds every kind of difference, and finds none where there is none.
 
+use compare::generate::Generator;
+use compare::lines;
 use std::env;
 use std::fs;
 use std::path::PathBuf;
@@ -49,6 +51,7 @@ fn equal_answers() {
 fn every_fault_is_told() {
     for (fault, part) in [
         ("wrong", "program: 9\n"),
+        ("touched", " touched\n"),
         ("word", "program: no\n"),
         ("missing", "program: (no answer)\n"),
         ("dropped", "program: "),
@@ -62,6 +65,15 @@ fn every_fault_is_told() {
         different(&output, part);
         different(&output, "seed 7\n");
     }
+}
+
+/// The stand-in changes the hundredth answer.
+#[test]
+fn the_request_is_told() {
+    let request = Generator::new(7).nth(99).expect("requests do not end");
+    let answer = lines::answer(&request);
+    let told = format!("request:  {}\nexpected: {answer}\n", request.escape_ascii());
+    different(&compare("wrong", &["7", "3000"]), &told);
 }
 
 #[test]

@@ -11,6 +11,7 @@ short) "$COMPARE" answer | head -c -1 ;;
 extra) "$COMPARE" answer && echo 0 ;;
 code) "$COMPARE" answer && exit 3 ;;
 signal) "$COMPARE" answer && kill -9 $$ ;;
+touched) "$COMPARE" answer | sed '0,/kept$/s//touched/' ;;
 later) "$COMPARE" answer | sed '4s/0/1/' ;;
 silent) exit 0 ;;
 esac

@@ -189,9 +189,10 @@ impl Lent {
             Some(start) if !random.chance(self.inside) => (start as u64, text.len() as u64),
             _ => self.anywhere(random),
         };
-        let (start, length) = match random.chance(self.edges) {
-            true => self.at_an_edge(random, start, length),
-            false => (start, length),
+        let (start, length) = if random.chance(self.edges) {
+            self.at_an_edge(random, start, length)
+        } else {
+            (start, length)
         };
         format!(" {start} {length}")
     }

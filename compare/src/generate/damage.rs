@@ -11,9 +11,41 @@ pub fn damage(random: &mut Random, encoded: &mut Encoded) {
     // From the last to the first, so that most places are still those of heads.
     places.sort_unstable_by(|a, b| b.cmp(a));
     for place in places {
-        match random.chance(65) {
-            true => damage_head(random, bytes, place),
-            false => damage_bytes(random, bytes, place),
+        if random.chance(65) {
+            damage_head(random, bytes, place);
+        } else {
+            damage_bytes(random, bytes, place);
+        }
+    }
+}
+
+/// Makes one fault of a head, at one of the first items or anywhere.
+pub fn damage_one_head(random: &mut Random, encoded: &mut Encoded) {
+    let Encoded { bytes, heads } = encoded;
+    let first = random.index(heads.len().min(5));
+    let any = random.index(heads.len());
+    let at = heads[random.pick(&[first, any])];
+    damage_head_at(random, bytes, at);
+}
+
+/// Makes the head at `at` a reserved one or a longer one, or cuts before it, in it or soon after it.
+pub fn damage_head_at(random: &mut Random, bytes: &mut Vec<u8>, at: usize) {
+    let major = bytes[at] >> 5;
+    let end = at + head_length(bytes[at]);
+    // How many bytes a number has in a head, and the least number that needs so many.
+    let (width, least): (_, u64) = random.pick(&[(1, 24), (2, 1 << 8), (4, 1 << 16), (8, 1 << 32)]);
+    match random.below(8) {
+        0 => drop(bytes.splice(at..end, [(major << 5) | (28 + random.below(4) as u8)])),
+        1..4 => {
+            let number = random.pick(&[0, least - 1, least]);
+            bytes.splice(at..end, head_of(major, number, width));
+        }
+        4 => bytes.truncate(at),
+        5 => bytes.truncate(end + random.index(20)),
+        _ => {
+            bytes.truncate(at);
+            bytes.extend(head_of(major, random.number(), width));
+            bytes.truncate(at + 1 + random.index(width));
         }
     }
 }
@@ -21,9 +53,10 @@ pub fn damage(random: &mut Random, encoded: &mut Encoded) {
 /// Adds bytes at the end.
 pub fn append(random: &mut Random, bytes: &mut Vec<u8>) {
     let length = 1 + random.index(20);
-    match random.chance(50) {
-        true => bytes.extend(small_item(random)),
-        false => bytes.extend(random.bytes(length)),
+    if random.chance(50) {
+        bytes.extend(small_item(random));
+    } else {
+        bytes.extend(random.bytes(length));
     }
 }
 
@@ -74,7 +107,7 @@ fn damage_bytes(random: &mut Random, bytes: &mut Vec<u8>, at: usize) {
         2 | 3 => bytes.truncate(place),
         4 => drop(bytes.drain(place..end)),
         5 => drop(bytes.splice(place..place, random.bytes(length))),
-        6 => drop(bytes.splice(place..place, small_item(random))),
+        6 => drop(bytes.splice(place..place, small_item(random).iter().copied())),
         7 => append(random, bytes),
         _ => {
             bytes.truncate(place);
@@ -83,17 +116,9 @@ fn damage_bytes(random: &mut Random, bytes: &mut Vec<u8>, at: usize) {
     }
 }
 
-fn small_item(random: &mut Random) -> Vec<u8> {
+fn small_item(random: &mut Random) -> &'static [u8] {
     random.pick(&[
-        vec![0x00],
-        vec![0x20],
-        vec![0x40],
-        vec![0x60],
-        vec![0x61, b'a'],
-        vec![0x80],
-        vec![0x81, 0x60],
-        vec![0xA0],
-        vec![0xF5],
-        vec![0xF6],
+        b"\x00", b"\x20", b"\x40", b"\x60", b"\x61a", b"\x80", b"\x81\x60", b"\xA0", b"\xF5",
+        b"\xF6",
     ])
 }

@@ -217,9 +217,10 @@ const MARKS: [&str; 30] = [
 /// At least so many pieces of a text, each a mark or a character that has some byte.
 fn pieces(random: &mut Random, least: usize, bytes: Bytes) -> Text {
     let count = least + random.index(5);
-    let piece = |_| match random.chance(30) {
-        true => random.pick(&MARKS).into(),
-        false => {
+    let piece = |_| {
+        if random.chance(30) {
+            random.pick(&MARKS).into()
+        } else {
             let byte = random.byte();
             character(random, byte, bytes)
         }

@@ -4,7 +4,7 @@ use super::damage::damage;
 use super::item::{Encoded, Item};
 use super::random::Random;
 use super::reference::{self, Maker};
-use super::{input, room};
+use super::{input, link, room};
 use crate::lines::hex;
 use crate::reader::{MAX_INPUT, MAX_SEGMENTS};
 use crate::resolver::resolve;
@@ -42,9 +42,13 @@ fn pair(random: &mut Random) -> Pair {
             base: input(random).bytes,
             reference: input(random).bytes,
         },
-        4..52 => Pair {
+        4..50 => Pair {
             base: reference::absolute(random, 0).encoded.bytes,
             reference: input(random).bytes,
+        },
+        50..52 => Pair {
+            base: link::around_longest(random),
+            ..small(random)
         },
         52..54 => Pair {
             base: input(random).bytes,
@@ -127,9 +131,10 @@ fn small_rest(maker: &mut Maker, items: &mut Vec<Item>) -> usize {
     let least = items.len();
     let text = |text: &str| Item::Text(text.into());
     let path = maker.random.pick(&SMALL_PATHS);
-    items.push(match maker.random.chance(30) {
-        true => Item::Null,
-        false => Item::Array(path.iter().map(|segment| text(segment)).collect()),
+    items.push(if maker.random.chance(30) {
+        Item::Null
+    } else {
+        Item::Array(path.iter().map(|segment| text(segment)).collect())
     });
     items.push(match maker.random.below(4) {
         0 => Item::Array(vec![text("")]),
@@ -171,20 +176,17 @@ fn around_longest(random: &mut Random) -> Pair {
     let opening = [maker.set_scheme(), maker.authority()];
     let (mut path, after) = maker.around_longest(&opening);
     let [scheme, authority] = opening;
-    let (base, mut reference) = match maker.random.chance(80) {
-        true => {
-            let appended = path.split_off(maker.random.index(path.len() + 1));
-            let dropped = maker.random.pick(&[0, 0, 1, 2]);
-            path.extend((0..dropped).map(|_| Item::Text(vec![b'd'])));
-            let discard = Item::Number(dropped);
-            let base = vec![scheme, authority, Item::Array(path)];
-            (base, vec![discard, Item::Array(appended)])
-        }
+    let (base, mut reference) = if maker.random.chance(80) {
+        let appended = path.split_off(maker.random.index(path.len() + 1));
+        let dropped = maker.random.pick(&[0, 0, 1, 2]);
+        path.extend((0..dropped).map(|_| Item::Text(vec![b'd'])));
+        let discard = Item::Number(dropped);
+        let base = vec![scheme, authority, Item::Array(path)];
+        (base, vec![discard, Item::Array(appended)])
+    } else {
         // The reference brings all but the scheme.
-        false => {
-            let base = vec![scheme, maker.authority()];
-            (base, vec![Item::Null, authority, Item::Array(path)])
-        }
+        let base = vec![scheme, maker.authority()];
+        (base, vec![Item::Null, authority, Item::Array(path)])
     };
     reference.extend(after);
     Pair::of(&base, &reference)

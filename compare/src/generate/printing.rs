@@ -13,9 +13,10 @@ use crate::uri_text::{longest, uri_text};
 pub fn text_request(random: &mut Random) -> String {
     let input = printed(random);
     let length = uri_text(&input, &mut [0; longest(MAX_INPUT)]).unwrap_or(input.len());
-    let room = match random.chance(10) {
-        true => longest(input.len()).min(MAX_ROOM),
-        false => room(random, length),
+    let room = if random.chance(10) {
+        longest(input.len()).min(MAX_ROOM)
+    } else {
+        room(random, length)
     };
     format!("text {room} {}", hex(&input))
 }
@@ -61,7 +62,16 @@ fn pair(random: &mut Random) -> [Vec<u8>; 2] {
             second = first.clone();
             confuse(random, &mut second);
         }
-        75..79 => second = Link::new(random, Bytes::Allowed),
+        75..77 => second = Link::new(random, Bytes::Allowed),
+        77..79 => {
+            let long = around_longest(random);
+            let other = if random.chance(50) {
+                long.clone()
+            } else {
+                second.encoded().bytes
+            };
+            return [long, other];
+        }
         79..82 => {
             let input = reference::absolute(random, 0).encoded.bytes;
             let mut other = input.clone();
@@ -231,9 +241,10 @@ fn escape_one(random: &mut Random, text: &mut Text, label: bool) {
     let plain: Vec<usize> = (0..text.len()).filter(|&k| text[k] < 0x80).collect();
     if !plain.is_empty() {
         let place = random.pick(&plain);
-        let escaped = match label {
-            true => format!("%{:02x}", text[place]),
-            false => format!("%{:02X}", text[place]),
+        let escaped = if label {
+            format!("%{:02x}", text[place])
+        } else {
+            format!("%{:02X}", text[place])
         };
         text.splice(place..place + 1, escaped.into_bytes());
     }

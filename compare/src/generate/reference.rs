@@ -2,6 +2,7 @@
 
 use super::item::{Encoded, Item};
 use super::random::Random;
+use std::ops::RangeInclusive;
 
 /// A reference, its items, and how many segments its path has.
 pub struct Made {
@@ -51,6 +52,53 @@ pub fn around_longest(random: &mut Random) -> Made {
     Made::of(items, segments)
 }
 
+/// A reference with a text that is not UTF-8, or without texts.
+pub fn not_utf8(random: &mut Random) -> Made {
+    let mut made = reference(random, 0);
+    let mut texts: Vec<_> = made.items.iter_mut().flat_map(texts_of).collect();
+    if !texts.is_empty() {
+        let place = random.index(texts.len());
+        let length = texts[place].len();
+        *texts[place] = Maker::brief(random).broken_text(length);
+    }
+    Made::of(made.items, made.segments)
+}
+
+/// The texts in an item.
+fn texts_of(item: &mut Item) -> Vec<&mut Vec<u8>> {
+    match item {
+        Item::Text(text) => vec![text],
+        Item::Array(items) => items.iter_mut().flat_map(texts_of).collect(),
+        _ => vec![],
+    }
+}
+
+/// A reference whose authority has nine labels, and the place of the last one.
+pub fn nine_labels(random: &mut Random) -> (Made, usize) {
+    let mut maker = Maker::brief(random);
+    let scheme = maker.scheme();
+    let mut labels: Vec<_> = (0..9).map(|_| maker.label(true)).collect();
+    if maker.random.chance(20) {
+        labels[8] = maker.stranger();
+    }
+    let path = maker.path();
+    let segments = segments_of(&path);
+    let mut items = vec![scheme, Item::Array(labels), path];
+    maker.leave_off(&mut items, 2);
+    let made = Made::of(items, segments);
+    // The heads of the outer array, of the scheme, of the authority and of eight labels come before it.
+    let ninth = made.encoded.heads[11];
+    (made, ninth)
+}
+
+/// How many segments a path has.
+fn segments_of(path: &Item) -> usize {
+    match path {
+        Item::Array(segments) => segments.len(),
+        _ => 0,
+    }
+}
+
 /// Lengths at which a head grows or a limit lies.
 const LENGTHS: [usize; 16] = [
     0, 1, 2, 5, 11, 22, 23, 24, 25, 62, 63, 64, 100, 200, 254, 255,
@@ -97,18 +145,29 @@ const BAD_SCHEME_TEXTS: [&str; 20] = [
 ];
 
 /// UTF-8 of every length, at the ends of its ranges.
-const CHARACTERS: [&str; 14] = [
-    "\u{80}", "\u{e9}", "\u{7ff}", "\u{800}", "\u{fff}", "\u{1000}", "\u{20ac}", "\u{d7ff}",
-    "\u{e000}", "\u{ffff}", "\u{10000}", "\u{3ffff}", "\u{40000}", "\u{10ffff}",
+const CHARACTERS: [&str; 18] = [
+    "\u{80}", "\u{e9}", "\u{7ff}", "\u{800}", "\u{fff}", "\u{1000}", "\u{20ac}", "\u{cfff}",
+    "\u{d000}", "\u{d7ff}", "\u{e000}", "\u{ffff}", "\u{10000}", "\u{3ffff}", "\u{40000}",
+    "\u{fffff}", "\u{100000}", "\u{10ffff}",
 ];
 
-/// Not UTF-8, whatever follows in a text of plain characters.
-const BROKEN: [&[u8]; 26] = [
-    b"\x80", b"\xBF", b"\xC0\x80", b"\xC1\xBF", b"\xC2", b"\xC2\x7F", b"\xDF\xC0", b"\xE0\x80\x80",
-    b"\xE0\x9F\xBF", b"\xE0\xA0", b"\xE1\x80", b"\xE1\x7F\x80", b"\xED\xA0\x80", b"\xED\xBF\xBF",
-    b"\xEE\x80\x7F", b"\xEF\xBF\xC0", b"\xF0\x80\x80\x80", b"\xF0\x8F\xBF\xBF", b"\xF0\x90\x80",
-    b"\xF1\x80\x80", b"\xF3\xBF\xBF\xC0", b"\xF4\x90\x80\x80", b"\xF4\xBF\xBF\xBF",
-    b"\xF5\x80\x80\x80", b"\xFE", b"\xFF",
+/// Bytes that begin no character.
+const NO_LEADS: [u8; 9] = [0x80, 0xBF, 0xC0, 0xC1, 0xF5, 0xF8, 0xFC, 0xFE, 0xFF];
+
+/// Lead bytes at the ends of their ranges, the second bytes that are allowed after them, and how long their characters are.
+const LEADS: [(u8, RangeInclusive<u8>, usize); 12] = [
+    (0xC2, 0x80..=0xBF, 2),
+    (0xDF, 0x80..=0xBF, 2),
+    (0xE0, 0xA0..=0xBF, 3),
+    (0xE1, 0x80..=0xBF, 3),
+    (0xEC, 0x80..=0xBF, 3),
+    (0xED, 0x80..=0x9F, 3),
+    (0xEE, 0x80..=0xBF, 3),
+    (0xEF, 0x80..=0xBF, 3),
+    (0xF0, 0x90..=0xBF, 4),
+    (0xF1, 0x80..=0xBF, 4),
+    (0xF3, 0x80..=0xBF, 4),
+    (0xF4, 0x80..=0x8F, 4),
 ];
 
 pub struct Maker<'r> {
@@ -154,10 +213,7 @@ impl<'r> Maker<'r> {
         let mut items = opening;
         let least = items.len();
         let path = self.path();
-        let segments = match &path {
-            Item::Array(segments) => segments.len(),
-            _ => 0,
-        };
+        let segments = segments_of(&path);
         items.push(path);
         items.push(self.query());
         items.push(self.fragment());
@@ -166,6 +222,9 @@ impl<'r> Maker<'r> {
             let place = self.random.index(items.len() + 1);
             let item = self.stranger();
             items.insert(place, item);
+        }
+        if self.slip() {
+            items.truncate(1);
         }
         Made::of(items, segments)
     }
@@ -229,11 +288,11 @@ impl<'r> Maker<'r> {
 
     fn discard(&mut self) -> Item {
         let over = self.slip();
-        Item::Number(match over {
-            true => self.random.pick(&[128, 129, 255, 256, 65536, u64::MAX]),
-            false => self
-                .random
-                .pick(&[0, 0, 0, 1, 2, 22, 23, 24, 25, 63, 126, 127]),
+        Item::Number(if over {
+            self.random.pick(&[128, 129, 255, 256, 65536, u64::MAX])
+        } else {
+            self.random
+                .pick(&[0, 0, 0, 1, 2, 22, 23, 24, 25, 63, 126, 127])
         })
     }
 
@@ -278,38 +337,40 @@ impl<'r> Maker<'r> {
     }
 
     fn address(&mut self, length: usize) -> Item {
-        let length = match self.slip() {
-            true => self.random.pick(&[0, 1, 3, 5, 8, 15, 17, 23, 24, 32, 256]),
-            false => length,
+        let length = if self.slip() {
+            self.random.pick(&[0, 1, 3, 5, 8, 15, 17, 23, 24, 32, 256])
+        } else {
+            length
         };
         Item::Bytes(self.random.bytes(length))
     }
 
     fn port(&mut self) -> Item {
         let over = self.slip();
-        Item::Number(match over {
-            true => self
-                .random
-                .pick(&[65536, 65537, 131_071, 0xFFFF_FFFF, 1 << 32, u64::MAX]),
-            false => self
-                .random
-                .pick(&[0, 1, 23, 24, 80, 255, 256, 443, 5683, 5684, 65534, 65535]),
+        Item::Number(if over {
+            self.random
+                .pick(&[65536, 65537, 131_071, 0xFFFF_FFFF, 1 << 32, u64::MAX])
+        } else {
+            self.random
+                .pick(&[0, 1, 23, 24, 80, 255, 256, 443, 5683, 5684, 65534, 65535])
         })
     }
 
     fn labels(&mut self) -> Vec<Item> {
-        let count = match self.slip() {
-            true => self.random.pick(&[0, 9, 9, 10]),
-            false => self.random.pick(&[1, 1, 2, 3, 4, 5, 7, 8, 8]),
+        let count = if self.slip() {
+            self.random.pick(&[0, 9, 9, 10])
+        } else {
+            self.random.pick(&[1, 1, 2, 3, 4, 5, 7, 8, 8])
         };
         let short = count > 3 || self.random.chance(50);
         (0..count).map(|_| self.label(short)).collect()
     }
 
     fn label(&mut self, short: bool) -> Item {
-        let length = match self.slip() {
-            true => self.random.pick(&[0, 64, 65, 255, 256]),
-            false => self.length(short).clamp(1, 63),
+        let length = if self.slip() {
+            self.random.pick(&[0, 64, 65, 255, 256])
+        } else {
+            self.length(short).clamp(1, 63)
         };
         let mut label = lower_case(self.text_of(length));
         if self.slip() && length > 0 {
@@ -324,9 +385,12 @@ impl<'r> Maker<'r> {
         let count = self.random.pick(&[3, 4, 4, 4, 4, 5]);
         let near = self.random.chance(70).then(|| self.random.index(count));
         (0..count)
-            .map(|i| match near == Some(i) {
-                true => self.random.pick(&NEAR_DECIMALS),
-                false => self.random.pick(&DECIMALS),
+            .map(|i| {
+                if near == Some(i) {
+                    self.random.pick(&NEAR_DECIMALS)
+                } else {
+                    self.random.pick(&DECIMALS)
+                }
             })
             .map(|label| Item::Text(label.into()))
             .collect()
@@ -362,11 +426,11 @@ impl<'r> Maker<'r> {
         if self.random.chance(25) {
             return Item::Null;
         }
-        let count = match self.slip() {
-            true => self.random.pick(&[33, 33, 34, 64]),
-            false => self
-                .random
-                .pick(&[0, 0, 1, 1, 2, 3, 5, 15, 22, 23, 24, 31, 31, 32, 32]),
+        let count = if self.slip() {
+            self.random.pick(&[33, 33, 34, 64])
+        } else {
+            self.random
+                .pick(&[0, 0, 1, 1, 2, 3, 5, 15, 22, 23, 24, 31, 31, 32, 32])
         };
         let texts = self.texts(count, Self::segment);
         self.array_item(texts)
@@ -396,9 +460,10 @@ impl<'r> Maker<'r> {
         if self.random.chance(50) {
             return Item::Null;
         }
-        let count = match self.slip() {
-            true => self.random.pick(&[0, 17, 17, 18, 32]),
-            false => self.random.pick(&[1, 1, 2, 3, 14, 15, 15, 16, 16]),
+        let count = if self.slip() {
+            self.random.pick(&[0, 17, 17, 18, 32])
+        } else {
+            self.random.pick(&[1, 1, 2, 3, 14, 15, 15, 16, 16])
         };
         let texts = self.texts(count, Self::parameter);
         self.array_item(texts)
@@ -425,17 +490,19 @@ impl<'r> Maker<'r> {
 
     /// A segment, parameter or fragment.
     fn content(&mut self, short: bool) -> Vec<u8> {
-        let length = match self.slip() {
-            true => self.random.pick(&[256, 256, 257, 511]),
-            false => self.length(short),
+        let length = if self.slip() {
+            self.random.pick(&[256, 256, 257, 511])
+        } else {
+            self.length(short)
         };
         self.text_of(length)
     }
 
     fn length(&mut self, short: bool) -> usize {
-        let length = match short {
-            true => self.random.pick(&[0, 0, 1, 1, 1, 2, 3, 8, 23, 24]),
-            false => self.random.pick(&LENGTHS),
+        let length = if short {
+            self.random.pick(&[0, 0, 1, 1, 1, 2, 3, 8, 23, 24])
+        } else {
+            self.random.pick(&LENGTHS)
         };
         let length = length.min(self.room);
         self.room -= length;
@@ -452,9 +519,10 @@ impl<'r> Maker<'r> {
     }
 
     fn array_item(&mut self, items: Vec<Item>) -> Item {
-        match self.slip() {
-            true => self.stranger(),
-            false => Item::Array(items),
+        if self.slip() {
+            self.stranger()
+        } else {
+            Item::Array(items)
         }
     }
 
@@ -465,34 +533,55 @@ impl<'r> Maker<'r> {
         while text.len() < length {
             let character = self.random.pick(&CHARACTERS).as_bytes();
             let fits = text.len() + character.len() <= length;
-            match fits && !self.random.chance(ascii) {
-                true => text.extend(character),
-                false => text.push(self.ascii()),
+            if fits && !self.random.chance(ascii) {
+                text.extend(character);
+            } else {
+                text.push(self.ascii());
             }
         }
         text
     }
 
     fn ascii(&mut self) -> u8 {
-        match self.random.chance(80) {
-            true => self.random.pick(b"abcxyz0189-~"),
-            false => self.random.byte() & 0x7F,
+        if self.random.chance(80) {
+            self.random.pick(b"abcxyz0189-~")
+        } else {
+            self.random.byte() & 0x7F
         }
     }
 
     /// A text of about `length` bytes that is not UTF-8.
     fn broken_text(&mut self, length: usize) -> Vec<u8> {
-        let broken = self.random.pick(&BROKEN);
+        let broken = self.broken_character();
         let left = length.saturating_sub(broken.len());
-        let before = match self.random.below(3) {
+        let before = match self.random.below(4) {
             0 => 0,
-            1 => left,
+            1 | 2 => left,
             _ => self.random.index(left + 1),
         };
         let mut text = self.text_of(before);
-        text.extend(broken);
-        text.resize(before + broken.len() + left - before, b'a');
+        text.extend(&broken);
+        text.resize(broken.len() + left, b'a');
         text
+    }
+
+    /// A character that is cut, or in which one byte is wrong: not UTF-8 whatever plain characters follow.
+    fn broken_character(&mut self) -> Vec<u8> {
+        if self.random.chance(25) {
+            return vec![self.random.pick(&NO_LEADS), 0x80];
+        }
+        let (lead, seconds, length) = self.random.pick(&LEADS);
+        let mut character = vec![lead, self.random.pick(&[*seconds.start(), *seconds.end()])];
+        character.resize_with(length, || self.random.pick(&[0x80, 0xBF]));
+        let right = self.random.pick(&[1, 1, 2, 3]).min(length - 1);
+        let allowed = if right == 1 { seconds } else { 0x80..=0xBF };
+        match self.random.below(10) {
+            0..3 => character.truncate(right),
+            3..6 => character[right] = allowed.start() - 1,
+            6..9 => character[right] = allowed.end() + 1,
+            _ => character[right] = self.random.byte() & 0x7F,
+        }
+        character
     }
 
     /// An item of any kind.

@@ -96,9 +96,10 @@ pub fn opening<'c>(words: &mut Words, labels: &'c mut Vec<Span>) -> Taken<Openin
         b"discard" => Ok(Opening::Discard(Discard::Last(words.number()?))),
         b"scheme" => {
             let scheme = scheme(words)?;
-            let authority = match words.next_is("authority") {
-                true => Some(authority(words, labels)?),
-                false => None,
+            let authority = if words.next_is("authority") {
+                Some(authority(words, labels)?)
+            } else {
+                None
             };
             Ok(Opening::Authority(scheme, authority))
         }
@@ -116,32 +117,34 @@ fn scheme(words: &mut Words) -> Taken<Scheme> {
 }
 
 fn authority<'c>(words: &mut Words, labels: &'c mut Vec<Span>) -> Taken<Authority<'c>> {
-    let host = match words.next_is("address") {
-        true => Host::Address(span(words)?),
-        false => {
-            *labels = spans(words, "label")?;
-            Host::Labels(labels)
-        }
+    let host = if words.next_is("address") {
+        Host::Address(span(words)?)
+    } else {
+        *labels = spans(words, "label")?;
+        Host::Labels(labels)
     };
-    let port = match words.next_is("port") {
-        true => Some(words.number()?),
-        false => None,
+    let port = if words.next_is("port") {
+        Some(words.number()?)
+    } else {
+        None
     };
     Ok(Authority { host, port })
 }
 
 /// A path or a query, whose first word is `name`.
 pub fn texts(words: &mut Words, name: &str, text: &str) -> Taken<Option<Vec<Span>>> {
-    match words.next_is(name) {
-        true => spans(words, text).map(Some),
-        false => Ok(None),
+    if words.next_is(name) {
+        spans(words, text).map(Some)
+    } else {
+        Ok(None)
     }
 }
 
 pub fn fragment(words: &mut Words) -> Taken<Option<Span>> {
-    match words.next_is("fragment") {
-        true => span(words).map(Some),
-        false => Ok(None),
+    if words.next_is("fragment") {
+        span(words).map(Some)
+    } else {
+        Ok(None)
     }
 }
 

@@ -4,7 +4,7 @@ use native.Mathlib.Omega.{arith}
 use mathlib.Core.Path.{_≡_, refl, sym, ap, _∙_}
 use mathlib.Core.Bool.{Bool, true, false}
 use Rattle.rules.specs.Bytes.{Bytes}
-use Rattle.rules.specs.Result.{refused, ok, _>>=_}
+use Rattle.rules.specs.Result.{refused, ok}
 use Rattle.rules.specs.Head.{Kind, Number, Text, codeOf, is, readHead}
 use Rattle.rules.proofs.Steps.{bind-ok, bind-refused}
 use Rattle.cbor.specs.Heads.{allows, accepted}

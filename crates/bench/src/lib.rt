@@ -163,7 +163,7 @@ pub extern "C" fn bench_put_escaped(room: &mut [u8], src: &[u8], class: u8) -> u
     if room.len() < escape::escaped_length(src, 0, src.len(), k, &bits) {
         return 0;
     }
-    let digits = escape::hex_digits();
+    let digits = escape::upper_hex_digits();
     escape::put_escaped(room, 0, src, 0, src.len(), k, &bits, &digits)
 }
 

@@ -21,11 +21,9 @@ ghost use lib.ListN.{length};
 ghost use Rattle.rules.specs.Calls.{outcome, after, writeCall, resolveCall, textCall, optionsCall};
 ghost use Rattle.rules.specs.Model.{limits};
 ghost use Rattle.rules.specs.Writing.{readCall};
-ghost use Rattle.rules.specs.Views.{segmentView, segmentShown, authorityView, pieceShown, numberOf};
 ghost use Rattle.components.specs.Content.{componentsOf};
 ghost use Rattle.components.specs.Layout.{readingLaid};
 ghost use Rattle.outcomes.specs.Answer.{doneIs};
-ghost use Rattle.views.specs.Parts.{PartOf, PieceOf};
 pub use cbor::Span;
 pub use components::Authority;
 pub use components::Components;
@@ -36,6 +34,13 @@ pub use components::Scheme;
 pub use components::Texts;
 pub use outcomes::Done;
 pub use reader::Port;
+
+// The views, whose contracts stand in crates/views. `segment` and `authority` give a part of a lent slice; `segment_number` and `authority_number`
+// of the same arguments tell the number of that call.
+pub use views::authority;
+pub use views::authority_number;
+pub use views::segment;
+pub use views::segment_number;
 
 // Reads a CRI reference: 0 and its components; or a number from 1 to 7, and every component unset.
 // Texts and addresses are given by where they stand in s.
@@ -84,35 +89,4 @@ pub fn options(s: &[u8], address: &[u8], port: u16, room: &mut [u8]) -> Done
     ensures { λ _. ⌜ now (room .exit) ≡ after (optionsCall limits (now (s .entry)) (now (address .entry)) port) (now (room .entry)) ⌝ }
 {
     options::options(s, address, port, room)
-}
-
-// The n-th path segment of a reference, from 0: the part of s that holds its bytes. Where `segment_number` is not 0, the empty
-// part at the start of s.
-pub fn segment(s: &[u8], n: usize) -> &[u8]
-    ensures { λ r. ⌜ PartOf (s .entry) r (segmentShown (segmentView limits (now (s .entry)) n)) ⌝ }
-{
-    views::segment(s, n)
-}
-
-// The number of that call: 0 where the segment is there; 1 to 7 where s is refused; 18 where it has no such segment.
-pub fn segment_number(s: &[u8], n: usize) -> u8
-    ensures { λ r. ⌜ r ≡ numberOf (segmentView limits (now (s .entry)) n) ⌝ }
-{
-    views::segment_number(s, n)
-}
-
-// The authority that the reference brings, else the base's: the part of that slice which holds the whole encoded item. Where
-// `authority_number` is not 0, the empty part at the start of the reference.
-pub fn authority<'a>(reference: &'a [u8], base: &'a [u8]) -> &'a [u8]
-    ensures { λ r. ⌜ PieceOf (reference .entry) (base .entry) r (pieceShown (authorityView limits (now (reference .entry)) (now (base .entry)))) ⌝ }
-{
-    views::authority(reference, base)
-}
-
-// The number of that call: 0 where the authority is shown; 8 where the base is refused or not absolute; 1 to 7 where the reference is
-// refused.
-pub fn authority_number(reference: &[u8], base: &[u8]) -> u8
-    ensures { λ r. ⌜ r ≡ numberOf (authorityView limits (now (reference .entry)) (now (base .entry))) ⌝ }
-{
-    views::authority_number(reference, base)
 }

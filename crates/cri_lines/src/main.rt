@@ -1,29 +1,20 @@
 // Runs the library's calls on requests, one to a line, and answers each with one line (docs/LINES.md).
 ghost use Prim.Native.Nat.{_≤_};
 ghost use lib.ListN.{length};
-
-mod components_words;
-mod output;
-mod requests;
-mod room;
-
 use output::Output;
+use output::add_byte;
+use output::add_text;
 use output::flush;
-use output::put_byte;
-use output::put_text;
-use request_words::find;
-use request_words::least;
+use output::least;
+use words::find;
 
 // The answer to one line.
-fn answer_line(out: &mut Output, used: usize, line: &[u8]) -> usize
-    requires { ⌜ used ≤ 65536 ⌝ }
-    ensures { λ r. ⌜ r ≤ 65536 ⌝ }
-{
+fn answer_line(out: &mut Output, used: usize, line: &[u8]) -> usize {
     if 65536 < line.len() {
-        return put_text(out, used, b"? line over 65536 bytes\n");
+        return add_text(out, used, b"? line over 65536 bytes\n");
     }
     let at = requests::answer(out, used, line);
-    put_byte(out, at, b'\n')
+    add_byte(out, at, b'\n')
 }
 
 // The answers to the whole lines of the input, in whose first `kept` bytes no line ends. The result is where the unfinished line starts.
@@ -39,7 +30,7 @@ fn answer_lines(out: &mut Output, input: &[u8], kept: usize) -> usize
         at = end + 1;
         end = find(input, at, b'\n');
     }
-    flush(out, used);
+    flush(out, used, libc::STDOUT_FILENO);
     at
 }
 
@@ -81,7 +72,7 @@ fn answer_some(out: &mut Output, input: &mut [u8], kept: usize) -> State
     if end == kept {
         if 0 < kept {
             let used = answer_line(out, 0, &input[0..kept]);
-            flush(out, used);
+            flush(out, used, libc::STDOUT_FILENO);
         }
         return State {
             kept: 0,

@@ -38,7 +38,7 @@ fn is_bare(class: Class, bits: &[u64; 4], b: u8) -> bool
 }
 
 // The upper-case hex digits, made once and lent.
-pub fn hex_digits() -> [u8; 16]
+pub fn upper_hex_digits() -> [u8; 16]
     ensures { λ r. ⌜ Digits hexDigit r ⌝ }
 {
     *b"0123456789ABCDEF"

@@ -8,22 +8,22 @@ use Rattle.rules.specs.Text.{Class, escape}
 use Rattle.rules.proofs.Walk.{First}
 use Rattle.put.proofs.Laws.{Left, Next, Count, CountNext}
 use Rattle.put.proofs.Rows as Rows
-use Rattle.escaped_runs.specs.Marked.{marked}
+use Rattle.escaped_runs.specs.Marked.{markedEach}
 
 module _ (k : Class) {bs : Bytes} {next left start n : ℕ} (f : First bs next left start n) (mark d : ℕ) where
-  each : (t : Bytes) (ts : List Bytes) → marked k mark d (t ∷ ts) ≡ (mark ∷ escape k t) ++ marked k d d ts
-  unfolding marked
+  each : (t : Bytes) (ts : List Bytes) → markedEach k mark d (t ∷ ts) ≡ (mark ∷ escape k t) ++ markedEach k d d ts
+  unfolding markedEach
   each t ts = refl
 
-  pub turn-next : {room room₀ w₀ : Bytes} {o at : ℕ} → Left room o (marked k mark d (contents bs next left)) room₀ at w₀
-      → Next room o (mark ∷ escape k (part bs start n)) (marked k d d (contents bs (start + n) (left - 1))) room₀ at w₀
-  turn-next l = Rows.turn-next (marked k mark d) (marked k d d) (λ t. mark ∷ escape k t) each f l
+  pub turn-next : {room room₀ w₀ : Bytes} {o at : ℕ} → Left room o (markedEach k mark d (contents bs next left)) room₀ at w₀
+      → Next room o (mark ∷ escape k (part bs start n)) (markedEach k d d (contents bs (start + n) (left - 1))) room₀ at w₀
+  turn-next l = Rows.turn-next (markedEach k mark d) (markedEach k d d) (λ t. mark ∷ escape k t) each f l
 
-  pub turn-count : {p m : ℕ} → Count p (marked k mark d (contents bs next left)) m
-      → CountNext p (mark ∷ escape k (part bs start n)) (marked k d d (contents bs (start + n) (left - 1))) m
-  turn-count c = Rows.turn-count (marked k mark d) (marked k d d) (λ t. mark ∷ escape k t) each f c
+  pub turn-count : {p m : ℕ} → Count p (markedEach k mark d (contents bs next left)) m
+      → CountNext p (mark ∷ escape k (part bs start n)) (markedEach k d d (contents bs (start + n) (left - 1))) m
+  turn-count c = Rows.turn-count (markedEach k mark d) (markedEach k d d) (λ t. mark ∷ escape k t) each f c
 
 -- nothing is left of none
-pub none-marked : (k : Class) (mark d : ℕ) (bs : Bytes) (next left : ℕ) → left ≤ 0 → marked k mark d (contents bs next left) ≡ []
-unfolding marked
-none-marked k mark d bs next left h = Rows.none-of (marked k mark d) refl bs next left h
+pub none-marked : (k : Class) (mark d : ℕ) (bs : Bytes) (next left : ℕ) → left ≤ 0 → markedEach k mark d (contents bs next left) ≡ []
+unfolding markedEach
+none-marked k mark d bs next left h = Rows.none-of (markedEach k mark d) refl bs next left h

@@ -5,6 +5,6 @@ use Rattle.rules.specs.Bytes.{Bytes}
 use Rattle.rules.specs.Text.{Class, escape}
 
 -- the first after one mark, each further one after another
-unfoldable pub marked : Class → ℕ → ℕ → List Bytes → Bytes
-marked k first further [] = []
-marked k first further (t ∷ ts) = first ∷ (escape k t ++ marked k further further ts)
+unfoldable pub markedEach : Class → ℕ → ℕ → List Bytes → Bytes
+markedEach k first further [] = []
+markedEach k first further (t ∷ ts) = first ∷ (escape k t ++ markedEach k further further ts)

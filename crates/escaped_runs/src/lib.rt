@@ -10,20 +10,20 @@ ghost use Rattle.rules.specs.Text.{escape};
 ghost use Rattle.rules.proofs.Texts.{Items};
 ghost use Rattle.put.specs.Wrote.{Wrote};
 ghost use Rattle.escape.specs.Escape.{classIs};
-ghost use Rattle.escaped_runs.specs.Marked.{marked};
+ghost use Rattle.escaped_runs.specs.Marked.{markedEach};
 use cbor::span_at;
 use escape::Class;
 use escape::bare_bits;
 use escape::escaped_length;
-use escape::hex_digits;
 use escape::put_escaped;
+use escape::upper_hex_digits;
 use put::put_byte;
 
 // How long the texts are, each escaped and after a mark.
 fn marked_length(s: &[u8], at: usize, count: usize, class: Class) -> usize
     requires { ⌜ Items (now s) at count ⌝ }
     requires { ⌜ length (now s) ≤ limits .bytes ⌝ }
-    ensures { λ r. ⌜ ((first further : ℕ) → r ≡ length (marked (classIs class) first further (contents (now (s .entry)) at count))) ⌝ }
+    ensures { λ r. ⌜ ((first further : ℕ) → r ≡ length (markedEach (classIs class) first further (contents (now (s .entry)) at count))) ⌝ }
 {
     let bits = bare_bits(class);
     let mut next = at;
@@ -50,11 +50,11 @@ fn put_marked(
     further: u8,
 ) -> usize
     requires { ⌜ Items (now s) from count ⌝ }
-    requires { ⌜ at + length (marked (classIs class) first further (contents (now s) from count)) ≤ length (now room) ⌝ }
-    ensures { λ r. ⌜ Wrote (now (room .entry)) at (marked (classIs class) first further (contents (now (s .entry)) from count)) (now (room .exit)) r ⌝ }
+    requires { ⌜ at + length (markedEach (classIs class) first further (contents (now s) from count)) ≤ length (now room) ⌝ }
+    ensures { λ r. ⌜ Wrote (now (room .entry)) at (markedEach (classIs class) first further (contents (now (s .entry)) from count)) (now (room .exit)) r ⌝ }
 {
     let bits = bare_bits(class);
-    let digits = hex_digits();
+    let digits = upper_hex_digits();
     let mut next = from;
     let mut left = count;
     let mut mark = first;

@@ -10,7 +10,7 @@ use lib.Dec.{ltb, leb}
 use borrow.Author.Tests.{leb-true}
 use Rattle.rules.specs.Bytes.{Bytes}
 use Rattle.rules.specs.Result.{Res, refused, ok, _>>=_}
-use Rattle.rules.specs.Head.{Kind, Number, Negative, ByteString, Text, Array, True, Null, Other, Head, width, shortest, headAt, readHead, majorOf, headBytes}
+use Rattle.rules.specs.Head.{Kind, Head, width, shortest, headAt, readHead, headBytes}
 use Rattle.rules.proofs.Tools.{tests, cond-split, below}
 use Rattle.rules.proofs.Steps.{yes!, yes-use}
 use Rattle.rules.proofs.Heads.{Fits, length-big, Spelled, spelled, yes-head}
@@ -23,17 +23,6 @@ shortest-most v =
     (λ f. cond-split (λ (i : ℕ). i < 28) (ltb v 256) (λ t. omega arith)
     (λ f. cond-split (λ (i : ℕ). i < 28) (ltb v 65536) (λ t. omega arith)
     (λ f. cond-split (λ (i : ℕ). i < 28) (ltb v 4294967296) (λ t. omega arith) (λ f. omega arith))))
-
-pub major-most : (k : Kind) → majorOf k ≤ 7
-unfolding majorOf
-major-most Number = omega arith
-major-most Negative = omega arith
-major-most ByteString = omega arith
-major-most Text = omega arith
-major-most Array = omega arith
-major-most True = omega arith
-major-most Null = omega arith
-major-most Other = omega arith
 
 -- how long the shortest head is, by its head information
 pub length-head : (k : Kind) (v i w : ℕ) → shortest v ≡ i → width i ≡ w → 1 + w ≡ length (headBytes k v)

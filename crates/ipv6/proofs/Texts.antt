@@ -1,18 +1,19 @@
 -- The text of an address, in the pieces that the code writes.
-use Prim.Native.Nat.{ℕ, _+_, _-_, _≤_, _<_}
+use Prim.Native.Nat.{ℕ, _+_, _*_, _-_, _≤_, _<_}
 use native.Mathlib.Omega.{arith}
 use mathlib.Core.Path.{_≡_, refl, sym, ap, ap₂, _∙_}
 use mathlib.Core.List.{List, [], _∷_, _++_, map}
-use lib.ListN.{length, getD, take, drop, length-drop}
+use lib.ListN.{length, getD, take, drop, length-append, length-drop}
 use lib.Seq.{take-all}
 use borrow.Author.Tests.{le-leb, lt-leb}
 use Rattle.rules.specs.Bytes.{Bytes, part, colon, join}
 use Rattle.rules.specs.Numeral.{numeral}
 use Rattle.rules.specs.Address.{groups, longest, hexGroups, ipv6Text}
 use Rattle.rules.proofs.Tools.{cond-yes, cond-no, length-part, part-cons}
+use Rattle.rules.proofs.Numerals.{numeral-length}
 use Rattle.rules.proofs.Addresses.{ipv6-length}
 use Rattle.put.specs.Joined.{further}
-use Rattle.put.proofs.Joined.{joined}
+use Rattle.put.proofs.Joined.{joined, further-none, further-step}
 use Rattle.ipv6.specs.Zeros.{zerosFrom}
 use Rattle.ipv6.specs.declared.Zeros.{Zeros}
 use Rattle.ipv6.proofs.Runs.{Found, found}
@@ -31,6 +32,26 @@ module _ (gs : List ℕ) where
   some-groups k n h l =
       ap (λ (xs : List ℕ). join colon (map (numeral 16 4) xs)) (part-cons gs k n (k + 1) (n - 1) h (omega arith) (omega arith))
       ∙ joined colon (numeral 16 4) (getD gs k 0) (part gs (k + 1) (n - 1))
+
+  -- one byte shorter than with a ":" before the first too
+  pub groups-further : (k n : ℕ) → k < length gs → 0 < n → length (hexGroups (part gs k n)) + 1 ≡ length (further colon (numeral 16 4) (part gs k n))
+  groups-further k n h l =
+      let g : Bytes = numeral 16 4 (getD gs k 0) in
+      let r : Bytes = further colon (numeral 16 4) (part gs (k + 1) (n - 1)) in
+      let e = ap (further colon (numeral 16 4)) (part-cons gs k n (k + 1) (n - 1) h (omega arith) (omega arith)) ∙ further-step colon (numeral 16 4) (getD gs k 0) (part gs (k + 1) (n - 1)) in
+      omega (arith, ap length (some-groups k n h l), ap length e, length-append g r)
+
+-- how long groups are at most
+pub further-most : (gs : List ℕ) → length (further colon (numeral 16 4) gs) ≤ 5 * length gs
+further-most [] = omega (arith, ap length (further-none colon (numeral 16 4)))
+further-most (g ∷ gs) =
+    omega (
+      arith,
+      ap length (further-step colon (numeral 16 4) g gs),
+      length-append (numeral 16 4 g) (further colon (numeral 16 4) gs),
+      numeral-length 16 4 g,
+      further-most gs,
+    )
 
 -- an address whose longest run of zeros was found
 module _ (bs : Bytes) (e : length (groups bs) ≡ 8) (z : Zeros) (is : z ≡ zerosFrom 0 (groups bs)) where
@@ -55,3 +76,9 @@ module _ (bs : Bytes) (e : length (groups bs) ≡ 8) (z : Zeros) (is : z ≡ zer
       ∙ ap₂ (λ (a b : List ℕ). hexGroups a ++ (colon ∷ colon ∷ hexGroups b))
       (run .left ∙ ap (λ (n : ℕ). take n (groups bs)) l)
       (run .right ∙ ap (λ (n : ℕ). drop n (groups bs)) r ∙ sym (take-all (8 - after) (drop after (groups bs)) (omega (arith, length-drop after (groups bs)))))
+
+  pub ipv6-lengths : 2 ≤ z .size
+      → length (ipv6Text bs) ≡ length (hexGroups (part (groups bs) 0 (z .at))) + (2 + length (hexGroups (part (groups bs) (z .at + z .size) (8 - (z .at + z .size)))))
+  ipv6-lengths h =
+      let tail : Bytes = hexGroups (part (groups bs) (z .at + z .size) (8 - (z .at + z .size))) in
+      omega (arith, ap length (ipv6-cut h), length-append (hexGroups (part (groups bs) 0 (z .at))) ((colon ∷ colon ∷ []) ++ tail))

@@ -9,7 +9,8 @@ ghost use Rattle.put.specs.Joined.{further};
 ghost use Rattle.put.specs.Tables.{Digits};
 ghost use Rattle.put.specs.Wrote.{Wrote};
 ghost use Rattle.ipv6.specs.Zeros.{ahead, withGroup, zerosFrom};
-use numeral::hex_digits;
+use numeral::hex_length;
+use numeral::lower_hex_digits;
 use numeral::put_hex;
 use put::put_byte;
 use put::put_bytes;
@@ -134,7 +135,7 @@ pub fn put_ipv6(room: &mut [u8], at: usize, src: &[u8], from: usize) -> usize
     requires { ⌜ at + length (ipv6Text (part (now src) from 16)) ≤ length (now room) ⌝ }
     ensures { λ r. ⌜ Wrote (now (room .entry)) at (ipv6Text (part (now (src .entry)) from 16)) (now (room .exit)) r ⌝ }
 {
-    let digits = hex_digits();
+    let digits = lower_hex_digits();
     let run = longest_run(src, from);
     if run.size < 2 {
         return put_groups(room, at, &digits, src, from, 0, 8);
@@ -145,11 +146,41 @@ pub fn put_ipv6(room: &mut [u8], at: usize, src: &[u8], from: usize) -> usize
     put_groups(room, q, &digits, src, from, next, 8 - next)
 }
 
+// How long n groups from group k on are in hex, each after a ":".
+fn further_length(src: &[u8], from: usize, k: usize, n: usize) -> usize
+    requires { ⌜ (from + 16 ≤ length (now src)) × (k + n ≤ 8) ⌝ }
+    ensures { λ r. ⌜ r ≡ length (further colon (numeral 16 4) (part (groups (part (now (src .entry)) from 16)) k n)) ⌝ }
+{
+    let end = k + n;
+    let mut total: usize = 0;
+    let mut i = k;
+    while i < end {
+        total += 1 + hex_length(group_at(src, from, i));
+        i += 1;
+    }
+    total
+}
+
+// How long n groups from group k on are in hex, with ":" between any two.
+fn groups_length(src: &[u8], from: usize, k: usize, n: usize) -> usize
+    requires { ⌜ (from + 16 ≤ length (now src)) × (k + n ≤ 8) ⌝ }
+    ensures { λ r. ⌜ r ≡ length (hexGroups (part (groups (part (now (src .entry)) from 16)) k n)) ⌝ }
+{
+    if n == 0 {
+        return 0;
+    }
+    further_length(src, from, k, n) - 1
+}
+
 // How long the text of an IPv6 address is.
 pub fn ipv6_length(src: &[u8], from: usize) -> usize
     requires { ⌜ from + 16 ≤ length (now src) ⌝ }
     ensures { λ r. ⌜ r ≡ length (ipv6Text (part (now (src .entry)) from 16)) ⌝ }
 {
-    let mut room = [0; 64];
-    put_ipv6(&mut room, 0, src, from)
+    let zeros = longest_run(src, from);
+    if zeros.size < 2 {
+        return groups_length(src, from, 0, 8);
+    }
+    let next = zeros.at + zeros.size;
+    groups_length(src, from, 0, zeros.at) + 2 + groups_length(src, from, next, 8 - next)
 }

@@ -9,7 +9,7 @@ ghost use Rattle.numeral.specs.Scales.{digitAt};
 use put::put_byte;
 
 // The lower-case hex digits, for put_hex.
-pub fn hex_digits() -> [u8; 16]
+pub fn lower_hex_digits() -> [u8; 16]
     ensures { λ r. ⌜ Digits digitByte r ⌝ }
 {
     *b"0123456789abcdef"
@@ -56,6 +56,20 @@ pub fn decimal_length(n: u16) -> usize
         return 4;
     }
     5
+}
+
+// How many digits the hex numeral of n has at a scale: one where n reaches it.
+fn hex_digit_length(n: u16, scale: u16) -> usize
+    ensures { λ r. ⌜ r ≡ length (digitAt 16 scale n) ⌝ }
+{
+    if n < scale { 0 } else { 1 }
+}
+
+// How long the hex numeral of n is.
+pub fn hex_length(n: u16) -> usize
+    ensures { λ r. ⌜ r ≡ length (numeral 16 4 n) ⌝ }
+{
+    hex_digit_length(n, 0x1000) + hex_digit_length(n, 0x100) + hex_digit_length(n, 0x10) + 1
 }
 
 // n in decimal.

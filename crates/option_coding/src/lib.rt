@@ -89,13 +89,13 @@ pub fn texts_length(s: &[u8], at: usize, count: usize, delta: usize) -> usize
 {
     let mut next = at;
     let mut left = count;
-    let mut over = delta;
+    let mut difference = delta;
     let mut total: usize = 0;
     while 0 < left {
         let span = span_at(s, next);
-        total += option_length(over, span.length);
+        total += option_length(difference, span.length);
         next = span.start + span.length;
-        over = 0;
+        difference = 0;
         left -= 1;
     }
     total
@@ -117,13 +117,13 @@ pub fn put_texts(
 {
     let mut next = from;
     let mut left = count;
-    let mut over = delta;
+    let mut difference = delta;
     let mut o = at;
     while 0 < left {
         let span = span_at(s, next);
-        o = put_option(room, o, over, s, span.start, span.length);
+        o = put_option(room, o, difference, s, span.start, span.length);
         next = span.start + span.length;
-        over = 0;
+        difference = 0;
         left -= 1;
     }
     o

@@ -5,8 +5,7 @@ use mathlib.Core.Path.{_≡_, refl, sym, ap, _∙_}
 use mathlib.Core.Bool.{true, false}
 use mathlib.Core.List.{List, [], _∷_, _++_}
 use mathlib.Core.Option.{Option, none, some, Option·map}
-use lib.ListN.{length, drop, length-append}
-use lib.Seq.{take-at}
+use lib.ListN.{length, length-append}
 use lib.Dec.{ltb, eqb}
 use borrow.Author.Tests.{ltb-true, eq-eqb, ne-eqb, lt-ltb, le-ltb}
 use Rattle.rules.specs.Bytes.{Bytes, part, bigEndian, dot, same, concat, join}
@@ -24,8 +23,8 @@ use Rattle.rules.proofs.OptionsBack.{default-port}
 use Rattle.rules.proofs.Steps.{none-some}
 use Rattle.rules.proofs.Walk.{First, none-left}
 use Rattle.put.specs.Wrote.{Wrote}
-use Rattle.put.proofs.Laws.{wrote-stands, wrote-length}
-use Rattle.option_values.specs.Values.{hostValue, portValue, defaultPort, dotted, TextsAsk, Valued, Row}
+use Rattle.put.proofs.Laws.{wrote-length, wrote-taken}
+use Rattle.option_values.specs.Values.{hostValue, portValue, defaultPort, dotted, TextsAsk, Valued, RowOf}
 use Rattle.option_values.specs.declared.Value.the-variants as ValueV
 
 -- ---- a value that was written
@@ -36,13 +35,10 @@ valued-none e = record { says = e; inside = tt; small = tt }
 pub valued-wrote : {a b w : Bytes} {v : Option Bytes} {k : ℕ} → some w ≡ v → length w ≤ length a → length w ≤ 255 → Wrote a 0 w b k → Valued b (ValueV.Is k) v
 valued-wrote {a} {b} {w} {v} {k} e h s p =
     record {
-      says = ap some take-written ∙ e;
+      says = ap some (wrote-taken p h) ∙ e;
       inside = omega (arith, p .place, wrote-length p);
       small = omega (arith, p .place);
     }
-  where
-    take-written : part b 0 k ≡ w
-    take-written = rw (wrote-stands p (omega arith)) (take-at w (drop k a) k (omega (arith, p .place)))
 
 -- ---- Uri-Host
 
@@ -125,7 +121,7 @@ port-other p d e = rw (ne-eqb p d e)
 
 -- ---- Uri-Path and Uri-Query
 
-none-row : (bs : Bytes) (at : ℕ) (ts : List Bytes) → [] ≡ ts → Row bs at 0 ts
+none-row : (bs : Bytes) (at : ℕ) (ts : List Bytes) → [] ≡ ts → RowOf bs at 0 ts
 unfolding contents spans
 none-row bs at ts e = record { says = e; stand = tt; small = tt }
 
@@ -137,27 +133,27 @@ one-text : (bs : Bytes) (at n start k : ℕ) → First bs at n start k → n ≡
 one-text bs at n start k f o = f .content ∙ ap (λ (ts : List Bytes). part bs start k ∷ ts) (none-left bs (start + k) (n - 1) (omega arith))
 
 module _ (bs : Bytes) {x : Slot} where
-  pub unset-row : x ≡ unset → Row bs 0 0 (elements (saidTexts bs x))
+  pub unset-row : x ≡ unset → RowOf bs 0 0 (elements (saidTexts bs x))
   unset-row e = none-row bs 0 _ (rw e)
 
-  pub set-row : {at n : ℕ} → x ≡ set at n → TextsAsk bs x → Row bs at n (elements (saidTexts bs x))
+  pub set-row : {at n : ℕ} → x ≡ set at n → TextsAsk bs x → RowOf bs at n (elements (saidTexts bs x))
   set-row {at} {n} e h = let k : TextsAsk bs (set at n) = rw e at h in record { says = rw e; stand = k .0; small = k .1 }
 
-  pub unset-path : x ≡ unset → Row bs 0 0 (normalPath (elements (saidTexts bs x)))
+  pub unset-path : x ≡ unset → RowOf bs 0 0 (normalPath (elements (saidTexts bs x)))
   unfolding normalPath
   unset-path e = none-row bs 0 _ (rw e)
 
   -- a path that is not changed
-  path-row : {at n : ℕ} → x ≡ set at n → TextsAsk bs x → normalPath (contents bs at n) ≡ contents bs at n → Row bs at n (normalPath (elements (saidTexts bs x)))
+  path-row : {at n : ℕ} → x ≡ set at n → TextsAsk bs x → normalPath (contents bs at n) ≡ contents bs at n → RowOf bs at n (normalPath (elements (saidTexts bs x)))
   path-row {at} {n} e h k = let t : TextsAsk bs (set at n) = rw e at h in record { says = rw e (sym k); stand = t .0; small = t .1 }
 
   -- one segment
   module _ {at n start k : ℕ} (f : First bs at n start k) (o : n ≡ 1) where
-    pub lone-empty : x ≡ set at n → k ≡ 0 → Row bs at 0 (normalPath (elements (saidTexts bs x)))
+    pub lone-empty : x ≡ set at n → k ≡ 0 → RowOf bs at 0 (normalPath (elements (saidTexts bs x)))
     unfolding normalPath
     lone-empty e z = none-row bs at _ (rw (e, one-text bs at n start k f o, z))
 
-    pub lone-full : x ≡ set at n → TextsAsk bs x → (k ≡ 0 → ⊥) → Row bs at n (normalPath (elements (saidTexts bs x)))
+    pub lone-full : x ≡ set at n → TextsAsk bs x → (k ≡ 0 → ⊥) → RowOf bs at n (normalPath (elements (saidTexts bs x)))
     unfolding normalPath
     lone-full e h z = path-row e h (rw (one-text bs at n start k f o) (full (part bs start k) (λ l. z (sym (length-part bs start k (f .inside)) ∙ l))))
       where
@@ -166,7 +162,7 @@ module _ (bs : Bytes) {x : Slot} where
         full (b ∷ t) z = refl
 
   -- none or several
-  pub not-one : (at n : ℕ) → x ≡ set at n → TextsAsk bs x → (n ≡ 1 → ⊥) → Row bs at n (normalPath (elements (saidTexts bs x)))
+  pub not-one : (at n : ℕ) → x ≡ set at n → TextsAsk bs x → (n ≡ 1 → ⊥) → RowOf bs at n (normalPath (elements (saidTexts bs x)))
   unfolding contents spans normalPath
   not-one at zero e h z = path-row e h refl
   not-one at (suc zero) e h z = absurd (z refl)

@@ -22,12 +22,12 @@ use Rattle.option_values.specs.declared.Value.the-variants as ValueV
 
 -- RULES 7.1: the joined labels, or the host's URI form if the address differs from the destination's
 unfoldable pub hostValue : Host Bytes → Bytes → Option Bytes
-hostValue (labels ls) destination = some (join dot ls)
-hostValue (address a) destination = cond (same a destination) none (some (addressText a))
+hostValue (labels ls) toAddress = some (join dot ls)
+hostValue (address a) toAddress = cond (same a toAddress) none (some (addressText a))
 
 -- RULES 7.2: a port that differs from the destination's
 unfoldable pub portValue : ℕ → ℕ → Option Bytes
-portValue port destination = cond (eqb port destination) none (some (portBytes port))
+portValue port toPort = cond (eqb port toPort) none (some (portBytes port))
 
 -- RULES 1.6: the default port of a scheme number
 unfoldable pub defaultPort : ℕ → Option ℕ
@@ -73,7 +73,7 @@ pub record Valued (src : Bytes) (r : Value) (v : Option Bytes) : Type 0 where
   pub small : SmallValue r
 
 -- the texts ts stand in a row
-pub record Row (bs : Bytes) (at n : ℕ) (ts : List Bytes) : Type 0 where
+pub record RowOf (bs : Bytes) (at n : ℕ) (ts : List Bytes) : Type 0 where
   pub says : contents bs at n ≡ ts
   pub stand : Items bs at n
   pub small : AllSmall (contents bs at n)

@@ -12,7 +12,7 @@ ghost use Rattle.rules.proofs.Authorities.{saidHost};
 ghost use Rattle.rules.proofs.Texts.{Items};
 ghost use Rattle.put.specs.Wrote.{Wrote};
 ghost use Rattle.reader.specs.Code.{slotOf, hostOf, portOf};
-ghost use Rattle.option_values.specs.Values.{hostValue, portValue, defaultPort, dotted, Valued, Row, HostAsks, TextsAsk};
+ghost use Rattle.option_values.specs.Values.{hostValue, portValue, defaultPort, dotted, Valued, RowOf, HostAsks, TextsAsk};
 use cbor::span_at;
 use put::put_big_endian;
 use put::put_byte;
@@ -61,14 +61,14 @@ fn put_labels(room: &mut [u8], s: &[u8], from: usize, count: usize) -> usize
 }
 
 // The value of Uri-Host, made in the room: the joined labels, or the text of an address that is not the destination's.
-pub fn host_value(room: &mut [u8], s: &[u8], host: HostAt, address: &[u8]) -> Value
+pub fn host_value(room: &mut [u8], s: &[u8], host: HostAt, to_address: &[u8]) -> Value
     requires { ⌜ HostAsks (now s) (hostOf host) ⌝ }
     requires { ⌜ 255 ≤ length (now room) ⌝ }
-    ensures { λ r. ⌜ Valued (now (room .exit)) r (hostValue (saidHost (now (s .entry)) (hostOf host)) (now (address .entry))) ⌝ }
+    ensures { λ r. ⌜ Valued (now (room .exit)) r (hostValue (saidHost (now (s .entry)) (hostOf host)) (now («to_address» .entry))) ⌝ }
 {
     match host {
         HostAt::Address(from, n) => {
-            if texts::same_at(s, from, n, address) {
+            if texts::same_at(s, from, n, to_address) {
                 return Value::Unset;
             }
             Value::Is(put_address(room, 0, s, from, n))
@@ -118,12 +118,12 @@ fn port_width(p: u64) -> usize
 }
 
 // The value of Uri-Port, made in the room: a port that is not the destination's.
-pub fn port_value(room: &mut [u8], port: u64, destination: u64) -> Value
+pub fn port_value(room: &mut [u8], port: u64, to_port: u64) -> Value
     requires { ⌜ port ≤ 65535 ⌝ }
     requires { ⌜ 2 ≤ length (now room) ⌝ }
-    ensures { λ r. ⌜ Valued (now (room .exit)) r (portValue port destination) ⌝ }
+    ensures { λ r. ⌜ Valued (now (room .exit)) r (portValue port «to_port») ⌝ }
 {
-    if port == destination {
+    if port == to_port {
         return Value::Unset;
     }
     Value::Is(put_big_endian(room, 0, port_width(port), port))
@@ -132,36 +132,36 @@ pub fn port_value(room: &mut [u8], port: u64, destination: u64) -> Value
 // ---- Uri-Path and Uri-Query
 
 // Texts that stand in a row: the position of the first, and their count.
-pub struct Run {
+pub struct Row {
     pub at: usize,
     pub count: usize,
 }
 
 // The segments; none for a path of one empty segment.
-pub fn segments(s: &[u8], path: Slot) -> Run
+pub fn segments(s: &[u8], path: Slot) -> Row
     requires { ⌜ TextsAsk (now s) (slotOf path) ⌝ }
-    ensures { λ r. ⌜ Row (now (s .entry)) (r .at) (r .count) (normalPath (elements (saidTexts (now (s .entry)) (slotOf path)))) ⌝ }
+    ensures { λ r. ⌜ RowOf (now (s .entry)) (r .at) (r .count) (normalPath (elements (saidTexts (now (s .entry)) (slotOf path)))) ⌝ }
 {
     match path {
-        Slot::Unset => Run { at: 0, count: 0 },
+        Slot::Unset => Row { at: 0, count: 0 },
         Slot::Set(at, n) => {
             if n == 1 {
                 let span = span_at(s, at);
                 if span.length == 0 {
-                    return Run { at: at, count: 0 };
+                    return Row { at: at, count: 0 };
                 }
             }
-            Run { at: at, count: n }
+            Row { at: at, count: n }
         }
     }
 }
 
 // The parameters.
-pub fn parameters(query: Slot) -> Run
-    ensures { λ r. ⌜ ((bs : Bytes) → TextsAsk bs (slotOf query) → Row bs (r .at) (r .count) (elements (saidTexts bs (slotOf query)))) ⌝ }
+pub fn parameters(query: Slot) -> Row
+    ensures { λ r. ⌜ ((bs : Bytes) → TextsAsk bs (slotOf query) → RowOf bs (r .at) (r .count) (elements (saidTexts bs (slotOf query)))) ⌝ }
 {
     match query {
-        Slot::Unset => Run { at: 0, count: 0 },
-        Slot::Set(at, n) => Run { at: at, count: n },
+        Slot::Unset => Row { at: 0, count: 0 },
+        Slot::Set(at, n) => Row { at: at, count: n },
     }
 }

@@ -20,7 +20,7 @@ use Rattle.rules.proofs.Slots.{saidTexts}
 use Rattle.rules.proofs.Authorities.{saidHost}
 use Rattle.option_coding.specs.Coded.{Small, coded}
 use Rattle.option_coding.proofs.Laws.{option-most}
-use Rattle.option_values.specs.Values.{hostValue, portValue, valueIn, Inside, SmallValue, Valued, Row}
+use Rattle.option_values.specs.Values.{hostValue, portValue, valueIn, Inside, SmallValue, Valued, RowOf}
 use Rattle.option_values.specs.declared.Value.{Value}
 use Rattle.option_values.specs.declared.Value.the-variants as ValueV
 use Rattle.options.specs.Requests.{optionsAt, valueCoded, numberAfter, isSet, DeltasAre, piecesAt, Stands, DeltasSmall}
@@ -69,12 +69,12 @@ value-most d (ValueV.Is n) s t f =
 
 -- ---- all of them
 
-pub pieces-sum : (name number bs : Bytes) (r : Request) (d : Deltas)
-    → length (piecesAt name number bs r d)
-    ≡ length (valueCoded 3 (valueIn name (r .host))) + length (valueCoded (d .port) (valueIn number (r .port))) + length (coded (d .path) (contents bs (r .path .at) (r .path .count))) + length (coded (d .query) (contents bs (r .query .at) (r .query .count)))
-pieces-sum name number bs r d =
-    let h : Bytes = valueCoded 3 (valueIn name (r .host)) in
-    let p : Bytes = valueCoded (d .port) (valueIn number (r .port)) in
+pub pieces-sum : (hostSrc portSrc bs : Bytes) (r : Request) (d : Deltas)
+    → length (piecesAt hostSrc portSrc bs r d)
+    ≡ length (valueCoded 3 (valueIn hostSrc (r .host))) + length (valueCoded (d .port) (valueIn portSrc (r .port))) + length (coded (d .path) (contents bs (r .path .at) (r .path .count))) + length (coded (d .query) (contents bs (r .query .at) (r .query .count)))
+pieces-sum hostSrc portSrc bs r d =
+    let h : Bytes = valueCoded 3 (valueIn hostSrc (r .host)) in
+    let p : Bytes = valueCoded (d .port) (valueIn portSrc (r .port)) in
     let s : Bytes = coded (d .path) (contents bs (r .path .at) (r .path .count)) in
     let q : Bytes = coded (d .query) (contents bs (r .query .at) (r .query .count)) in
     omega (arith, length-append h (p ++ (s ++ q)), length-append p (s ++ q), length-append s q)
@@ -127,14 +127,14 @@ all-from h p ss qs =
     rw port (one-from 0 3 h (one 7 p ++ (S ++ Q)))
     ∙ ap (optionsFrom 0) (sym (append-assoc (one 3 h) (one 7 p) (S ++ Q)) ∙ sym (append-assoc (one 3 h ++ one 7 p) S Q))
 
-host-one : (h : Host Bytes) (to : Bytes) → one 3 (hostValue h to) ≡ uriHost h to
+host-one : (h : Host Bytes) (toAddress : Bytes) → one 3 (hostValue h toAddress) ≡ uriHost h toAddress
 unfolding hostValue uriHost
-host-one (labels ls) to = refl
-host-one (address a) to = by-test (λ t. one 3 (cond t none (some (addressText a))) ≡ cond t [] (option 3 (addressText a) ∷ [])) (same a to) (λ e. refl) (λ e. refl)
+host-one (labels ls) toAddress = refl
+host-one (address a) toAddress = by-test (λ t. one 3 (cond t none (some (addressText a))) ≡ cond t [] (option 3 (addressText a) ∷ [])) (same a toAddress) (λ e. refl) (λ e. refl)
 
-port-one : (p to : ℕ) → one 7 (portValue p to) ≡ uriPort p to
+port-one : (p toPort : ℕ) → one 7 (portValue p toPort) ≡ uriPort p toPort
 unfolding portValue uriPort
-port-one p to = by-test (λ t. one 7 (cond t none (some (portBytes p))) ≡ cond t [] (option 7 (portBytes p) ∷ [])) (eqb p to) (λ e. refl) (λ e. refl)
+port-one p toPort = by-test (λ t. one 7 (cond t none (some (portBytes p))) ≡ cond t [] (option 7 (portBytes p) ∷ [])) (eqb p toPort) (λ e. refl) (λ e. refl)
 
 set-present : (src : Bytes) (v : Value) → isSet v ≡ present (valueIn src v)
 set-present src ValueV.Unset = refl
@@ -142,20 +142,20 @@ set-present src (ValueV.Is n) = refl
 
 -- ---- a request whose values and texts were found
 
-module _ (name number bs : Bytes) (r : Request) (d : Deltas) (is : DeltasAre (isSet (r .host)) (isSet (r .port)) (ltb 0 (r .path .count)) d) where
+module _ (hostSrc portSrc bs : Bytes) (r : Request) (d : Deltas) (is : DeltasAre (isSet (r .host)) (isSet (r .port)) (ltb 0 (r .path .count)) d) where
   pieces-from : let S = contents bs (r .path .at) (r .path .count) in let Q = contents bs (r .query .at) (r .query .count) in
-      piecesAt name number bs r d ≡ optionsFrom 0 (one 3 (valueIn name (r .host)) ++ one 7 (valueIn number (r .port)) ++ map (option 11) S ++ map (option 15) Q)
+      piecesAt hostSrc portSrc bs r d ≡ optionsFrom 0 (one 3 (valueIn hostSrc (r .host)) ++ one 7 (valueIn portSrc (r .port)) ++ map (option 11) S ++ map (option 15) Q)
   pieces-from =
       let n : r .path .count ≡ length (contents bs (r .path .at) (r .path .count)) = sym (length-contents bs (r .path .at) (r .path .count)) in
-      rw (is .port, is .path, is .query, set-present name (r .host), set-present number (r .port), ap (ltb 0) n)
-      (all-from (valueIn name (r .host)) (valueIn number (r .port)) (contents bs (r .path .at) (r .path .count)) (contents bs (r .query .at) (r .query .count)))
+      rw (is .port, is .path, is .query, set-present hostSrc (r .host), set-present portSrc (r .port), ap (ltb 0) n)
+      (all-from (valueIn hostSrc (r .host)) (valueIn portSrc (r .port)) (contents bs (r .path .at) (r .path .count)) (contents bs (r .query .at) (r .query .count)))
 
-  module _ (host : HostAt) (port : ℕ) (path query : Slot) (to : Bytes) (toPort : ℕ)
-      (h : Valued name (r .host) (hostValue (saidHost bs host) to)) (p : Valued number (r .port) (portValue port toPort))
-      (s : Row bs (r .path .at) (r .path .count) (normalPath (elements (saidTexts bs path)))) (q : Row bs (r .query .at) (r .query .count) (elements (saidTexts bs query))) where
+  module _ (host : HostAt) (port : ℕ) (path query : Slot) (toAddress : Bytes) (toPort : ℕ)
+      (h : Valued hostSrc (r .host) (hostValue (saidHost bs host) toAddress)) (p : Valued portSrc (r .port) (portValue port toPort))
+      (s : RowOf bs (r .path .at) (r .path .count) (normalPath (elements (saidTexts bs path)))) (q : RowOf bs (r .query .at) (r .query .count) (elements (saidTexts bs query))) where
     pub stands : Stands bs r
     stands = record { host = h .small; port = p .small; path = (s .stand, s .small); query = (q .stand, q .small) }
 
-    pub pieces-are : piecesAt name number bs r d ≡ optionsAt bs host port path query to toPort
+    pub pieces-are : piecesAt hostSrc portSrc bs r d ≡ optionsAt bs host port path query toAddress toPort
     unfolding optionsAt
-    pieces-are = pieces-from ∙ rw (h .says, p .says, s .says, q .says, host-one (saidHost bs host) to, port-one port toPort)
+    pieces-are = pieces-from ∙ rw (h .says, p .says, s .says, q .says, host-one (saidHost bs host) toAddress, port-one port toPort)

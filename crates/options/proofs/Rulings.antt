@@ -31,35 +31,35 @@ use Rattle.options.specs.Requests.{optionsAt, defaultRuling, numberRulin
 
 -- ---- what the call rules
 
-module _ (bs to : Bytes) (port : ℕ) where
-  pub address-refused : (eqb (length to) 4 || eqb (length to) 16) ≡ false → optionsCall limits bs to port ≡ refuse DEST
+module _ (bs toAddress : Bytes) (toPort : ℕ) where
+  pub address-refused : (eqb (length toAddress) 4 || eqb (length toAddress) 16) ≡ false → optionsCall limits bs toAddress toPort ≡ refuse DEST
   unfolding optionsCall requested need _>>_
   address-refused e = rw e
 
   -- on a CRI
   abbrev asked : Cri → Res Bytes
-  asked c = given (coapScheme (c .scheme)) COAP 0 >>= λ s. need (absent (c .fragment)) COAP 0 >> ok (optionsFrom 0 (options c s to port))
+  asked c = given (coapScheme (c .scheme)) COAP 0 >>= λ s. need (absent (c .fragment)) COAP 0 >> ok (optionsFrom 0 (options c s toAddress toPort))
 
-  address-taken : (eqb (length to) 4 || eqb (length to) 16) ≡ true → optionsCall limits bs to port ≡ ruling (readAbsolute limits bs >>= asked)
+  address-taken : (eqb (length toAddress) 4 || eqb (length toAddress) 16) ≡ true → optionsCall limits bs toAddress toPort ≡ ruling (readAbsolute limits bs >>= asked)
   unfolding optionsCall requested need _>>_
   address-taken e = rw e
 
-  pub input-refused : (eqb (length to) 4 || eqb (length to) 16) ≡ true → (n k : ℕ) → read limits bs ≡ refused n k → optionsCall limits bs to port ≡ refuse n
+  pub input-refused : (eqb (length toAddress) 4 || eqb (length toAddress) 16) ≡ true → (n k : ℕ) → read limits bs ≡ refused n k → optionsCall limits bs toAddress toPort ≡ refuse n
   unfolding readAbsolute readReference _>>=_
   input-refused a n k e = address-taken a ∙ rw e
 
   -- whose scheme is a number, by its entry in the table
   entry-ruled : (s : Scheme Bytes) (m : Option SchemeEntry) (a : AuthorityAt) (p q g : Slot) →
       let c : Cri = record { scheme = s; authority = saidAuthority bs a; path = elements (saidTexts bs p); query = saidTexts bs q; fragment = saidText bs g } in
-      ruling (given m COAP 0 >>= λ s. need (absent (c .fragment)) COAP 0 >> ok (optionsFrom 0 (options c s to port)))
-      ≡ defaultRuling (Option·map (λ (e : SchemeEntry). e .port) m) g (λ (d : ℕ). optionsAt bs (a .host) (Option·getD (a .port) d) p q to port)
+      ruling (given m COAP 0 >>= λ s. need (absent (c .fragment)) COAP 0 >> ok (optionsFrom 0 (options c s toAddress toPort)))
+      ≡ defaultRuling (Option·map (λ (e : SchemeEntry). e .port) m) g (λ (d : ℕ). optionsAt bs (a .host) (Option·getD (a .port) d) p q toAddress toPort)
   unfolding given need _>>=_ _>>_ options optionsAt defaultRuling
   entry-ruled s none a p q g = refl
   entry-ruled s (some e) a p q unset = refl
   entry-ruled s (some e) a p q (set at n) = refl
 
   opening-ruled : (o : OpeningAt) (p q g : Slot)
-      → ruling (given (absolute (said bs o p q g)) BASE 0 >>= asked) ≡ openingRuling bs o (record { opening = o; path = p; query = q; fragment = g }) to port
+      → ruling (given (absolute (said bs o p q g)) BASE 0 >>= asked) ≡ openingRuling bs o (record { opening = o; path = p; query = q; fragment = g }) toAddress toPort
   unfolding given _>>=_ absolute defaultPort
   opening-ruled (discardAt k) p q g = refl
   opening-ruled discardAllAt p q g = refl
@@ -67,7 +67,7 @@ module _ (bs to : Bytes) (port : ℕ) where
   opening-ruled (fullAt (numberAt n) a) p q g = entry-ruled _ (schemeIn schemes n) a p q g
   opening-ruled (fullAt (nameAt at n) a) p q g = refl
 
-  pub found-ruled : (eqb (length to) 4 || eqb (length to) 16) ≡ true → (f : Found) → read limits bs ≡ ok f → optionsCall limits bs to port ≡ openingRuling bs (f .opening) f to port
+  pub found-ruled : (eqb (length toAddress) 4 || eqb (length toAddress) 16) ≡ true → (f : Found) → read limits bs ≡ ok f → optionsCall limits bs toAddress toPort ≡ openingRuling bs (f .opening) f toAddress toPort
   found-ruled a f e =
       address-taken a
       ∙ ap (λ (m : Res Cri). ruling (m >>= asked)) (read-absolute limits bs f e ∙ ap (λ (r : Reference). given (absolute r) BASE 0) (meaning-said bs (f .opening) (f .path) (f .query) (f .fragment)))
@@ -87,21 +87,21 @@ module _ {m : Option ℕ} (g : Slot) (w : ℕ → Bytes) where
   unfolding defaultRuling
   default-some e f = rw (e, f)
 
-module _ (bs : Bytes) (f : Found) (to : Bytes) (port : ℕ) {o : OpeningAt} where
-  pub ruled-discard : {k : ℕ} → o ≡ discardAt k → openingRuling bs o f to port ≡ refuse BASE
+module _ (bs : Bytes) (f : Found) (toAddress : Bytes) (toPort : ℕ) {o : OpeningAt} where
+  pub ruled-discard : {k : ℕ} → o ≡ discardAt k → openingRuling bs o f toAddress toPort ≡ refuse BASE
   ruled-discard e = rw e
 
-  pub ruled-all : o ≡ discardAllAt → openingRuling bs o f to port ≡ refuse BASE
+  pub ruled-all : o ≡ discardAllAt → openingRuling bs o f toAddress toPort ≡ refuse BASE
   ruled-all e = rw e
 
   module _ {s : SchemeAt} {a : AuthorityAt} (e : o ≡ fullAt s a) where
-    pub ruled-none : s ≡ noScheme → openingRuling bs o f to port ≡ refuse BASE
+    pub ruled-none : s ≡ noScheme → openingRuling bs o f toAddress toPort ≡ refuse BASE
     ruled-none d = rw (e, d)
 
-    pub ruled-number : {n : ℕ} → s ≡ numberAt n → openingRuling bs o f to port ≡ numberRuling bs n a f to port
+    pub ruled-number : {n : ℕ} → s ≡ numberAt n → openingRuling bs o f toAddress toPort ≡ numberRuling bs n a f toAddress toPort
     ruled-number d = rw (e, d)
 
-    pub ruled-name : {at n : ℕ} → s ≡ nameAt at n → openingRuling bs o f to port ≡ refuse COAP
+    pub ruled-name : {at n : ℕ} → s ≡ nameAt at n → openingRuling bs o f toAddress toPort ≡ refuse COAP
     ruled-name d = rw (e, d)
 
 -- ---- what is known of the positions

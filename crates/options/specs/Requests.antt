@@ -25,10 +25,10 @@ use Rattle.options.specs.declared.Deltas.{Deltas}
 
 -- 7: the options of a request that has this host, port, path and query
 unfoldable pub optionsAt : Bytes → HostAt → ℕ → Slot → Slot → Bytes → ℕ → Bytes
-optionsAt bs host port path query address destination =
+optionsAt bs host port path query toAddress toPort =
     optionsFrom 0
-    (uriHost (saidHost bs host) address
-    ++ uriPort port destination
+    (uriHost (saidHost bs host) toAddress
+    ++ uriPort port toPort
     ++ map (option 11) (normalPath (elements (saidTexts bs path)))
     ++ map (option 15) (elements (saidTexts bs query)))
 
@@ -40,16 +40,16 @@ defaultRuling (some d) unset w = write (w d)
 
 -- 7.2: the port, or else the default
 abbrev pub numberRuling : Bytes → ℕ → AuthorityAt → Found → Bytes → ℕ → Ruling
-numberRuling bs n a f address destination =
-    defaultRuling (defaultPort n) (f .fragment) (λ (d : ℕ). optionsAt bs (a .host) (Option·getD (a .port) d) (f .path) (f .query) address destination)
+numberRuling bs n a f toAddress toPort =
+    defaultRuling (defaultPort n) (f .fragment) (λ (d : ℕ). optionsAt bs (a .host) (Option·getD (a .port) d) (f .path) (f .query) toAddress toPort)
 
 -- 3.5: 8 where it is not absolute, 11 where the scheme is a text
 abbrev pub openingRuling : Bytes → OpeningAt → Found → Bytes → ℕ → Ruling
-openingRuling bs (discardAt k) f address destination = refuse BASE
-openingRuling bs discardAllAt f address destination = refuse BASE
-openingRuling bs (fullAt noScheme a) f address destination = refuse BASE
-openingRuling bs (fullAt (numberAt n) a) f address destination = numberRuling bs n a f address destination
-openingRuling bs (fullAt (nameAt at n) a) f address destination = refuse COAP
+openingRuling bs (discardAt k) f toAddress toPort = refuse BASE
+openingRuling bs discardAllAt f toAddress toPort = refuse BASE
+openingRuling bs (fullAt noScheme a) f toAddress toPort = refuse BASE
+openingRuling bs (fullAt (numberAt n) a) f toAddress toPort = numberRuling bs n a f toAddress toPort
+openingRuling bs (fullAt (nameAt at n) a) f toAddress toPort = refuse COAP
 
 -- ---- what is known of the positions
 
@@ -94,9 +94,9 @@ pub record DeltasAre (h p s : Bool) (d : Deltas) : Type 0 where
 
 -- the values at the starts of two byte strings, and the texts of an input
 abbrev pub piecesAt : Bytes → Bytes → Bytes → Request → Deltas → Bytes
-piecesAt name number bs r d =
-    valueCoded 3 (valueIn name (r .host))
-    ++ (valueCoded (d .port) (valueIn number (r .port))
+piecesAt hostSrc portSrc bs r d =
+    valueCoded 3 (valueIn hostSrc (r .host))
+    ++ (valueCoded (d .port) (valueIn portSrc (r .port))
     ++ (coded (d .path) (contents bs (r .path .at) (r .path .count))
     ++ coded (d .query) (contents bs (r .query .at) (r .query .count))))
 

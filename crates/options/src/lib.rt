@@ -16,7 +16,7 @@ use option_coding::option_length;
 use option_coding::put_option;
 use option_coding::put_texts;
 use option_coding::texts_length;
-use option_values::Run;
+use option_values::Row;
 use option_values::Value;
 use option_values::default_port;
 use option_values::host_value;
@@ -40,8 +40,8 @@ use reader::Slot;
 pub struct Request {
     pub host: Value,
     pub port: Value,
-    pub path: Run,
-    pub query: Run,
+    pub path: Row,
+    pub query: Row,
 }
 
 // The difference of each option's number from the one before.
@@ -118,7 +118,7 @@ fn put_value(room: &mut [u8], at: usize, delta: usize, src: &[u8], value: Value)
 fn options_length(s: &[u8], request: Request, deltas: Deltas) -> usize
     requires { ⌜ length (now s) ≤ limits .bytes ⌝ }
     requires { ⌜ Stands (now s) request × DeltasSmall deltas ⌝ }
-    ensures { λ r. ⌜ ((name number : Bytes) → Inside name (request .host) → Inside number (request .port) → r ≡ length (piecesAt name number (now (s .entry)) request deltas)) ⌝ }
+    ensures { λ r. ⌜ ((hostSrc portSrc : Bytes) → Inside hostSrc (request .host) → Inside portSrc (request .port) → r ≡ length (piecesAt hostSrc portSrc (now (s .entry)) request deltas)) ⌝ }
 {
     let host = request.host;
     let port = request.port;
@@ -130,26 +130,26 @@ fn options_length(s: &[u8], request: Request, deltas: Deltas) -> usize
         + texts_length(s, query.at, query.count, deltas.query)
 }
 
-// All options, from the start of the room on; the values of Uri-Host and Uri-Port stand at the start of `name` and of `number`.
+// All options, from the start of the room on; the values of Uri-Host and Uri-Port stand at the start of `host_src` and of `port_src`.
 fn put_options(
     room: &mut [u8],
-    name: &[u8],
-    number: &[u8],
+    host_src: &[u8],
+    port_src: &[u8],
     s: &[u8],
     request: Request,
     deltas: Deltas,
 ) -> usize
     requires { ⌜ Stands (now s) request × DeltasSmall deltas ⌝ }
-    requires { ⌜ Inside (now name) (request .host) × Inside (now number) (request .port) ⌝ }
-    requires { ⌜ length (piecesAt (now name) (now number) (now s) request deltas) ≤ length (now room) ⌝ }
-    ensures { λ r. ⌜ Wrote (now (room .entry)) 0 (piecesAt (now (name .entry)) (now (number .entry)) (now (s .entry)) request deltas) (now (room .exit)) r ⌝ }
+    requires { ⌜ Inside (now «host_src») (request .host) × Inside (now «port_src») (request .port) ⌝ }
+    requires { ⌜ length (piecesAt (now «host_src») (now «port_src») (now s) request deltas) ≤ length (now room) ⌝ }
+    ensures { λ r. ⌜ Wrote (now (room .entry)) 0 (piecesAt (now («host_src» .entry)) (now («port_src» .entry)) (now (s .entry)) request deltas) (now (room .exit)) r ⌝ }
 {
     let host = request.host;
     let port = request.port;
     let path = request.path;
     let query = request.query;
-    let a = put_value(room, 0, 3, name, host);
-    let b = put_value(room, a, deltas.port, number, port);
+    let a = put_value(room, 0, 3, host_src, host);
+    let b = put_value(room, a, deltas.port, port_src, port);
     let c = put_texts(room, b, s, path.at, path.count, deltas.path);
     put_texts(room, c, s, query.at, query.count, deltas.query)
 }
@@ -163,48 +163,48 @@ fn requested(
     port: u64,
     path: Slot,
     query: Slot,
-    address: &[u8],
-    destination: u64,
+    to_address: &[u8],
+    to_port: u64,
     room: &mut [u8],
 ) -> Done
     requires { ⌜ length (now s) ≤ limits .bytes ⌝ }
     requires { ⌜ HostAsks (now s) (hostOf host) × (port ≤ 65535) ⌝ }
     requires { ⌜ TextsAsk (now s) (slotOf path) × TextsAsk (now s) (slotOf query) ⌝ }
-    ensures { λ r. ⌜ doneIs r ≡ outcome (write (optionsAt (now (s .entry)) (hostOf host) port (slotOf path) (slotOf query) (now (address .entry)) destination)) (length (now (room .entry))) ⌝ }
-    ensures { λ _. ⌜ now (room .exit) ≡ after (write (optionsAt (now (s .entry)) (hostOf host) port (slotOf path) (slotOf query) (now (address .entry)) destination)) (now (room .entry)) ⌝ }
+    ensures { λ r. ⌜ doneIs r ≡ outcome (write (optionsAt (now (s .entry)) (hostOf host) port (slotOf path) (slotOf query) (now («to_address» .entry)) «to_port»)) (length (now (room .entry))) ⌝ }
+    ensures { λ _. ⌜ now (room .exit) ≡ after (write (optionsAt (now (s .entry)) (hostOf host) port (slotOf path) (slotOf query) (now («to_address» .entry)) «to_port»)) (now (room .entry)) ⌝ }
 {
-    let mut name = [0u8; 255];
-    let mut number = [0u8; 2];
+    let mut host_src = [0u8; 255];
+    let mut port_src = [0u8; 2];
     let request = Request {
-        host: host_value(&mut name, s, host, address),
-        port: port_value(&mut number, port, destination),
+        host: host_value(&mut host_src, s, host, to_address),
+        port: port_value(&mut port_src, port, to_port),
         path: segments(s, path),
         query: parameters(query),
     };
-    let over = deltas_of(request);
-    if room.len() < options_length(s, request, over) {
+    let deltas = deltas_of(request);
+    if room.len() < options_length(s, request, deltas) {
         return outcomes::refused(10);
     }
     Done {
         number: 0,
-        length: put_options(room, &name, &number, s, request, over),
+        length: put_options(room, &host_src, &port_src, s, request, deltas),
     }
 }
 
 // The options of an accepted CRI whose scheme is a number: 11 where that has no default port, or where a fragment is set.
-fn of_number(
+fn options_of_number(
     s: &[u8],
     n: u64,
     authority: AuthorityAt,
     found: Found,
-    address: &[u8],
-    destination: u64,
+    to_address: &[u8],
+    to_port: u64,
     room: &mut [u8],
 ) -> Done
     requires { ⌜ Asks (now s) (foundOf found) ⌝ }
     requires { ⌜ AuthorityAsks (now s) (authorityOf authority) ⌝ }
-    ensures { λ r. ⌜ doneIs r ≡ outcome (numberRuling (now (s .entry)) n (authorityOf authority) (foundOf found) (now (address .entry)) destination) (length (now (room .entry))) ⌝ }
-    ensures { λ _. ⌜ now (room .exit) ≡ after (numberRuling (now (s .entry)) n (authorityOf authority) (foundOf found) (now (address .entry)) destination) (now (room .entry)) ⌝ }
+    ensures { λ r. ⌜ doneIs r ≡ outcome (numberRuling (now (s .entry)) n (authorityOf authority) (foundOf found) (now («to_address» .entry)) «to_port») (length (now (room .entry))) ⌝ }
+    ensures { λ _. ⌜ now (room .exit) ≡ after (numberRuling (now (s .entry)) n (authorityOf authority) (foundOf found) (now («to_address» .entry)) «to_port») (now (room .entry)) ⌝ }
 {
     let host = authority.host;
     let port = authority.port;
@@ -221,8 +221,8 @@ fn of_number(
                 port_or(port, default),
                 path,
                 query,
-                address,
-                destination,
+                to_address,
+                to_port,
                 room,
             ),
         },
@@ -230,10 +230,16 @@ fn of_number(
 }
 
 // The options of an accepted reference: 8 where it is not absolute, 11 where its scheme is a text.
-fn of_found(s: &[u8], found: Found, address: &[u8], destination: u64, room: &mut [u8]) -> Done
+fn options_of_found(
+    s: &[u8],
+    found: Found,
+    to_address: &[u8],
+    to_port: u64,
+    room: &mut [u8],
+) -> Done
     requires { ⌜ Asks (now s) (foundOf found) ⌝ }
-    ensures { λ r. ⌜ doneIs r ≡ outcome (openingRuling (now (s .entry)) (openingOf (found .opening)) (foundOf found) (now (address .entry)) destination) (length (now (room .entry))) ⌝ }
-    ensures { λ _. ⌜ now (room .exit) ≡ after (openingRuling (now (s .entry)) (openingOf (found .opening)) (foundOf found) (now (address .entry)) destination) (now (room .entry)) ⌝ }
+    ensures { λ r. ⌜ doneIs r ≡ outcome (openingRuling (now (s .entry)) (openingOf (found .opening)) (foundOf found) (now («to_address» .entry)) «to_port») (length (now (room .entry))) ⌝ }
+    ensures { λ _. ⌜ now (room .exit) ≡ after (openingRuling (now (s .entry)) (openingOf (found .opening)) (foundOf found) (now («to_address» .entry)) «to_port») (now (room .entry)) ⌝ }
 {
     let opening = found.opening;
     match opening {
@@ -241,7 +247,15 @@ fn of_found(s: &[u8], found: Found, address: &[u8], destination: u64, room: &mut
         OpeningAt::DiscardAll => outcomes::refused(8),
         OpeningAt::Full(scheme, authority) => match scheme {
             SchemeAt::Unset => outcomes::refused(8),
-            SchemeAt::Number(n) => of_number(s, n, authority, found, address, destination, room),
+            SchemeAt::Number(n) => options_of_number(
+                s,
+                n,
+                authority,
+                found,
+                to_address,
+                to_port,
+                room,
+            ),
             SchemeAt::Name(_, _) => outcomes::refused(11),
         },
     }
@@ -255,7 +269,7 @@ pub fn options(s: &[u8], address: &[u8], port: u16, room: &mut [u8]) -> Done
     if reader::is_address_length(address.len() as u64) {
         return match reader::read(s) {
             Answer::Refused(k, _) => outcomes::refused(k),
-            Answer::Is(found) => of_found(s, found, address, port as u64, room),
+            Answer::Is(found) => options_of_found(s, found, address, port as u64, room),
         };
     }
     outcomes::refused(12)

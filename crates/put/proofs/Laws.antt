@@ -51,11 +51,9 @@ wrote-stands {a} {b} {w} {i} {k} p h =
     ∙ drop-at (take i a) (w ++ drop (i + length w) a) i (length-take-le i a (omega arith))
     ∙ ap (λ (n : ℕ). w ++ drop n a) (sym (p .place))
 
--- and what stood before it
-pub wrote-before : {a b w : Bytes} {i k : ℕ} → Wrote a i w b k → i + length w ≤ length a → take i b ≡ take i a
-wrote-before {a} {b} {w} {i} {k} p h =
-    ap (take i) (p .bytes ∙ sets-eq w a i h ∙ append-assoc (take i a) w (drop (i + length w) a))
-    ∙ take-at (take i a) (w ++ drop (i + length w) a) i (length-take-le i a (omega arith))
+-- what was written from 0 on, taken out again
+pub wrote-taken : {a b w : Bytes} {k : ℕ} → Wrote a 0 w b k → length w ≤ length a → take k b ≡ w
+wrote-taken {a} {b} {w} {k} p h = rw (wrote-stands p (omega arith)) (take-at w (drop k a) k (omega (arith, p .place)))
 
 -- ---- a loop that writes: w is left to be written at o, where all of it was w₀, from `at` on, in room₀
 

@@ -618,7 +618,7 @@ fn opening_at(s: &[u8], at: usize, count: usize) -> Opened
 // ---- the whole
 
 // a - b, and 0 where b is more.
-fn less(a: usize, b: usize) -> usize
+fn minus(a: usize, b: usize) -> usize
     ensures { λ r. ⌜ r ≡ a - b ⌝ }
 {
     if a < b {
@@ -644,10 +644,10 @@ fn rest_at(s: &[u8], opening: OpeningAt, at: usize, left: usize) -> Answer
     match array_at(s, at, left, Sort::Segment, 0, 32) {
         SlotAt::Refused(k, place) => Answer::Refused(k, place),
         SlotAt::Is(path, after_path) => {
-            match array_at(s, after_path, less(left, 1), Sort::Parameter, 1, 16) {
+            match array_at(s, after_path, minus(left, 1), Sort::Parameter, 1, 16) {
                 SlotAt::Refused(k, place) => Answer::Refused(k, place),
                 SlotAt::Is(query, after_query) => {
-                    match fragment_at(s, after_query, less(left, 2)) {
+                    match fragment_at(s, after_query, minus(left, 2)) {
                         SlotAt::Refused(k, place) => Answer::Refused(k, place),
                         SlotAt::Is(fragment, end) => finish(
                             s,

@@ -11,6 +11,7 @@ use components::Opening;
 use components::Scheme;
 use components::Texts;
 use reader::Port;
+use words::find;
 
 // ---- words. What is wrong with a line is what was wrong first.
 
@@ -51,27 +52,6 @@ pub struct TakenBytes {
 pub struct TakenNumber {
     pub value: u64,
     pub rest: Cursor,
-}
-
-pub fn least(a: usize, b: usize) -> usize
-    ensures { λ r. ⌜ (r ≤ a) × (r ≤ b) ⌝ }
-{
-    if a < b { a } else { b }
-}
-
-// The place of the first byte b from a position on, or the length.
-pub fn find(s: &[u8], at: usize, b: u8) -> usize
-    requires { ⌜ at ≤ length (now s) ⌝ }
-    ensures { λ r. ⌜ (at ≤ r) × (r ≤ length (now (s .entry))) ⌝ }
-{
-    let mut i = at;
-    while i < s.len() {
-        if s[i] == b {
-            return i;
-        }
-        i += 1;
-    }
-    i
 }
 
 // The first of two faults, if there is one.
@@ -234,6 +214,35 @@ pub fn take_number_16(line: &[u8], c: Cursor) -> TakenNumber16 {
         rest: Cursor {
             at: at,
             fault: first(fault, Fault::PortTooLarge),
+        },
+    }
+}
+
+// How much of a room is lent, and the place after the word that said it.
+pub struct TakenRoom {
+    pub length: usize,
+    pub rest: Cursor,
+}
+
+// The next word, read as how much of the room is lent: at most all of it.
+pub fn take_room(room: &[u8], line: &[u8], c: Cursor) -> TakenRoom
+    ensures { λ r. ⌜ Counts (r .length) (now (room .entry)) ⌝ }
+{
+    let number = take_number(line, c);
+    let rest = number.rest;
+    let at = rest.at;
+    let fault = rest.fault;
+    if number.value <= room.len() as u64 {
+        return TakenRoom {
+            length: number.value as usize,
+            rest: rest,
+        };
+    }
+    TakenRoom {
+        length: 0,
+        rest: Cursor {
+            at: at,
+            fault: first(fault, Fault::RoomTooLarge),
         },
     }
 }

@@ -11,7 +11,8 @@ use Rattle.rules.specs.Head.{Array, Null, headBytes, majorOf, shortest, width}
 use Rattle.rules.specs.Encode.{textItem, arrayItem, textsItem, nullItem, orNull, tailItems}
 use Rattle.rules.proofs.Laid.{texts, queryItem, fragmentItem}
 use Rattle.heads.proofs.Laws.{head-most}
-use Rattle.resolver.specs.Parts.{furtherItems, pathHead, pathItems}
+use Rattle.resolved_parts.specs.Parts.{furtherItems}
+use Rattle.resolver.specs.Written.{pathHead, pathItems}
 
 -- an array of texts before other bytes
 texts-then : (ts : List Bytes) (w : Bytes) → textsItem ts ++ w ≡ headBytes Array (length ts) ++ (texts ts ++ w)

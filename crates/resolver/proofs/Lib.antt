@@ -1,3 +1,2 @@
+mod Encoded
 mod Items
-mod Laws
-mod Resolved

@@ -1,2 +1,2 @@
--- The result of resolving, as parts of the two inputs.
-pub mod Parts
+-- The bytes of a result, and the ruling on them.
+pub mod Written

@@ -8,7 +8,7 @@ use mathlib.Core.List.{List, [], _∷_, _++_, append-assoc, append-nil, map}
 use mathlib.Core.Option.{Option, none, some}
 use lib.ListN.{length, drop, length-append, length-map}
 use lib.Dec.{leb, eqb, lit≤, lit<}
-use borrow.Author.Tests.{leb-true, le-leb, ltb-true, lt-ltb, eqb-true}
+use borrow.Author.Tests.{leb-true, le-leb, ltb-true, lt-ltb}
 use Rattle.rules.specs.Bytes.{Bytes, Each, Octets, within, concat}
 use Rattle.rules.specs.Result.{ok, need, _>>=_, _>>_, if_then_else_}
 use Rattle.rules.specs.Model.{Host, address, labels, Authority}
@@ -17,7 +17,7 @@ use Rattle.rules.specs.Rules.{label, nameRule}
 use Rattle.rules.specs.Reader.{endAt, spans, taken, contents, HostAt, addressAt, labelsAt, AuthorityAt, Names, readNothing, portBody, readPort, labelBody, readNames, addressHost, labelsHost, readAuthority}
 use Rattle.rules.specs.Encode.{textItem, arrayItem, portItems, hostItems, authorityItem}
 use Rattle.rules.specs.Valid.{If, Good, GoodAddress, GoodLabels, GoodHost, GoodAuthority}
-use Rattle.rules.proofs.Tools.{never, by-test, each-map, or-left, or-right, within-low, within-high, is-within, length-part, octets-part}
+use Rattle.rules.proofs.Tools.{tests, never, by-test, each-map, or-left, or-right, within-low, within-high, is-within, length-part, octets-part}
 use Rattle.rules.proofs.Steps.{Ok, ok!, ok-bind, ok-map, ok-if, ok-need, Yes, yes!, yes-bind, yes-map, yes-then, yes-else, yes-need, yes-ok, Stable, same!, stable-bind, stable-bind-ok, stable-if, stable-need}
 use Rattle.rules.proofs.Heads.{is-kind, Stands, ok-head, yes-head, head-spells, next-inside, Spelled, spelled, head-stable, head-ok}
 use Rattle.rules.proofs.Texts.{contentAt, TextAt, ok-textBody, TextWas, FitText, good-64, yes-textBody, spelled-text, textBody-stable, ok-content, yes-content, content-stable, item-spells, item-was, Items, length-contents, contents-more}
@@ -336,10 +336,9 @@ unfolding portItems
 port-items none = omega arith
 port-items (some v) = omega arith
 
-address-size : (x : Bytes) → GoodAddress x → length x ≤ 16
-address-size x g =
-    by-test (λ b. (b || eqb (length x) 16) ≡ true → eqb (length x) 4 ≡ b → length x ≤ 16) (eqb (length x) 4)
-    (λ e k f. omega (arith, eqb-true (length x) 4 f)) (λ e k f. omega (arith, eqb-true (length x) 16 k)) (g .size) refl
+pub address-most : (bs : Bytes) → GoodAddress bs → length bs ≤ 16
+address-most bs g =
+    by-test (λ t. (t || eqb (length bs) 16) ≡ true → length bs ≤ 16) (eqb (length bs) 4) (λ e z. omega tests) (λ e z. omega tests) (g .size)
 
 host-some : (h : Host Bytes) → GoodHost h → 1 ≤ length (hostItems h)
 unfolding hostItems
@@ -397,7 +396,7 @@ yes-authority a bs at rest f good e =
 -- a good authority fits
 
 fit-host : (h : Host Bytes) → GoodHost h → FitHost h
-fit-host (address x) g = omega (arith, address-size x g)
+fit-host (address x) g = omega (arith, address-most x g)
 fit-host (labels ts) g = (within-high 1 8 (length ts) (g .texts .count), each-map (good-64 {s = label} (lit< tt)) ts (g .texts .each))
 
 fit-port : (o : Option ℕ) → GoodPort o → FitPort o

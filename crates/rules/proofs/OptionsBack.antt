@@ -2,7 +2,7 @@
 use Prim.Native.Nat.{ℕ, zero, suc, _+_, _-_, _*_, _/_, _%_, _≤_, _<_}
 use native.Mathlib.Omega.{arith}
 use mathlib.Core.Path.{_≡_, refl, sym, ap, ap₂, _∙_, subst}
-use mathlib.Core.Bool.{Bool, true, false, _&&_, _||_}
+use mathlib.Core.Bool.{Bool, true, false, _&&_}
 use mathlib.Core.Option.{Option, none, some, Option·getD, bind}
 use mathlib.Core.List.{List, [], _∷_, _++_, map, append-assoc, append-nil}
 use lib.ListN.{length, take, drop, length-append, take-append-drop}
@@ -20,8 +20,9 @@ use Rattle.rules.specs.Address.{ipv4Text, ipv6Text, rightBracket, addres
 use Rattle.rules.specs.Options.{CoapOption, option, uriHost, portBytes, uriPort, options, coapScheme, nibble, extension, optionBytes, optionsFrom, Extended, reads, oneByteMore, twoBytesMore, extended, OptionAt, optionAt, readOption, readOptionsFrom, readOptions, Rising, GoodOption, Codable}
 use Rattle.rules.specs.Calls.{ruling, write, absent, requested}
 use Rattle.rules.specs.Promises.{Requested}
-use Rattle.rules.proofs.Tools.{All, tests, and-left, and-right, never, by-test, cond-split, within-high, each-append, each-map, each-all, each-take, each-drop}
+use Rattle.rules.proofs.Tools.{All, tests, and-left, and-right, never, cond-split, within-high, each-append, each-map, each-all, each-take, each-drop}
 use Rattle.rules.proofs.Steps.{none-some, Ok, no!, ok!, ok-bind, ok-need, ok-given}
+use Rattle.rules.proofs.Authorities.{address-most}
 use Rattle.rules.proofs.Absolutes.{GoodCri, good-read}
 use Rattle.rules.proofs.Utf8Bytes.{good-octets, goods-octets}
 use Rattle.rules.proofs.Escapes.{join-all}
@@ -282,10 +283,6 @@ address-octets bs =
     cond-split Octets (eqb (length bs) 4) (λ e. all-octets (join dot (map decimal bs)) (join-all byte dot refl (map decimal bs) (decimals-all bs)))
     (λ e. (omega arith, each-append _ (ipv6Text bs) (rightBracket ∷ []) (all-octets (ipv6Text bs) (ipv6-all byte refl refl bs)) (omega arith, tt)))
 
-pub address-most : (bs : Bytes) → GoodAddress bs → length bs ≤ 16
-address-most bs g =
-    by-test (λ t. (t || eqb (length bs) 16) ≡ true → length bs ≤ 16) (eqb (length bs) 4) (λ e z. omega tests) (λ e z. omega tests) (g .size)
-
 pub address-short : (bs : Bytes) → GoodAddress bs → ShortValue (addressText bs)
 address-short bs g = record { size = omega (arith, address-most bs g, address-length bs g); octets = address-octets bs }
 
@@ -315,14 +312,14 @@ run-of n [] h = tt
 run-of n (t ∷ ts) h = ((refl, h .0), run-of n ts (h .1))
 
 -- 7.1, 7.2
-host-run : (h : Host Bytes) (to : Bytes) → GoodHost h → Run 3 (uriHost h to)
+host-run : (h : Host Bytes) (toAddress : Bytes) → GoodHost h → Run 3 (uriHost h toAddress)
 unfolding uriHost
-host-run (labels ls) to g = ((refl, labels-short ls (g .texts .each) (g .name)), tt)
-host-run (address a) to g = cond-split (Run 3) (same a to) (λ e. tt) (λ e. ((refl, address-short a g), tt))
+host-run (labels ls) toAddress g = ((refl, labels-short ls (g .texts .each) (g .name)), tt)
+host-run (address a) toAddress g = cond-split (Run 3) (same a toAddress) (λ e. tt) (λ e. ((refl, address-short a g), tt))
 
-port-run : (p to : ℕ) → p ≤ 65535 → Run 7 (uriPort p to)
+port-run : (p toPort : ℕ) → p ≤ 65535 → Run 7 (uriPort p toPort)
 unfolding uriPort
-port-run p to h = cond-split (Run 7) (eqb p to) (λ e. tt) (λ e. ((refl, record { size = omega (arith, port-two p); octets = port-octets p h }), tt))
+port-run p toPort h = cond-split (Run 7) (eqb p toPort) (λ e. tt) (λ e. ((refl, record { size = omega (arith, port-two p); octets = port-octets p h }), tt))
 
 query-short : (q : Option (List Bytes)) → If (GoodTexts parameter 1 16) q → Each ShortValue (elements q)
 query-short none g = tt

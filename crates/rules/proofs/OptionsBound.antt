@@ -19,11 +19,12 @@ use Rattle.rules.specs.Address.{addressText}
 use Rattle.rules.specs.Options.{CoapOption, option, uriHost, portBytes, uriPort, options, extension, optionBytes, optionsFrom}
 use Rattle.rules.proofs.Tools.{tests, cond-split}
 use Rattle.rules.proofs.Heads.{head-some}
+use Rattle.rules.proofs.Authorities.{address-most}
 use Rattle.rules.proofs.Laid.{texts}
 use Rattle.rules.proofs.Rows.{text-length, array-length}
 use Rattle.rules.proofs.Absolutes.{withPath, GoodCri, good-read, EncodedAs, encoded-as}
 use Rattle.rules.proofs.TextBound.{itemLength, encode-items, bytes-length, address-length}
-use Rattle.rules.proofs.OptionsBack.{extension-length, option-length, lastNumber, options-append, address-most, port-two}
+use Rattle.rules.proofs.OptionsBack.{extension-length, option-length, lastNumber, options-append, port-two}
 
 -- ---- one option
 
@@ -50,20 +51,20 @@ join-texts d (t ∷ []) = simp length-append (omega (arith, text-length t))
 join-texts d (t ∷ u ∷ ts) =
     rw (length-append t (d ∷ join d (u ∷ ts)), length-append (textItem t) (texts (u ∷ ts))) (omega (arith, text-length t, join-texts d (u ∷ ts)))
 
-host-options : (h : Host Bytes) (to : Bytes) → GoodHost h → length (optionsFrom 0 (uriHost h to)) ≤ 2 * length (concat (hostItems h)) + 19
+host-options : (h : Host Bytes) (toAddress : Bytes) → GoodHost h → length (optionsFrom 0 (uriHost h toAddress)) ≤ 2 * length (concat (hostItems h)) + 19
 unfolding uriHost hostItems
-host-options (labels ls) to g =
+host-options (labels ls) toAddress g =
     let v : Bytes = join dot ls in
     omega (arith, optional-length false 0 3 v, extension-few 3, extension-few (length v), join-texts dot ls)
-host-options (address a) to g =
+host-options (address a) toAddress g =
     let v : Bytes = addressText a in
-    omega (arith, optional-length (same a to) 0 3 v, extension-few 3, extension-few (length v), address-length a g, address-most a g, bytes-length a)
+    omega (arith, optional-length (same a toAddress) 0 3 v, extension-few 3, extension-few (length v), address-length a g, address-most a g, bytes-length a)
 
-port-options : (before p to : ℕ) → length (optionsFrom before (uriPort p to)) ≤ 3
+port-options : (before p toPort : ℕ) → length (optionsFrom before (uriPort p toPort)) ≤ 3
 unfolding uriPort
-port-options before p to =
+port-options before p toPort =
     let v : Bytes = portBytes p in
-    omega (arith, optional-length (eqb p to) before 7 v, extension-few (7 - before), extension-few (length v), port-two p)
+    omega (arith, optional-length (eqb p toPort) before 7 v, extension-few (7 - before), extension-few (length v), port-two p)
 
 -- ---- path and query
 

@@ -8,14 +8,14 @@ use mathlib.Core.Option.{Option, none, some, Option·map}
 use lib.ListN.{length, length-map}
 use lib.Dec.{leb}
 use borrow.Author.Tests.{leb-true}
-use Rattle.rules.specs.Bytes.{Bytes, Each, Octets, all}
+use Rattle.rules.specs.Bytes.{Bytes, Each, Octets}
 use Rattle.rules.specs.Result.{Res, refused, ok, need, _>>_}
 use Rattle.rules.specs.Model.{Scheme, number, name, Host, address, labels, Opening, discard, discardAll, full, Span, Reference, Components, Limits, mapScheme, mapHost, mapOpening, mapParts, elements}
 use Rattle.rules.specs.Reader.{taken, Found, read}
 use Rattle.rules.specs.Meaning.{components, meaning, readReference}
 use Rattle.rules.specs.Encode.{encode}
 use Rattle.rules.specs.Valid.{If}
-use Rattle.rules.specs.Writing.{labelsOf, openingLabels, allTexts, SizedScheme, SizedOpening, Sized, counted, inside, placeless, written, Reading, readCall}
+use Rattle.rules.specs.Writing.{labelsOf, openingLabels, allTexts, SizedScheme, SizedOpening, Sized, counted, Lie, placeless, written, Reading, readCall}
 use Rattle.rules.specs.Calls.{write, ruling, writeCall}
 use Rattle.rules.proofs.Tools.{and-left, and-right, part-most}
 use Rattle.rules.proofs.Steps.{Ok, no!, ok!, ok-need, ok-at, bind-ok}
@@ -30,7 +30,7 @@ use Rattle.rules.proofs.Numbers.{call-accepted, accepted}
 -- ---- writing what was read
 
 -- components of which everything is in order, and whose encoding is accepted, are written
-write-accepted : (lim : Limits) (c : Components) (lent : Bytes) (f : Found) → counted lim c ≡ true → all (inside lent) (allTexts c) ≡ true
+write-accepted : (lim : Limits) (c : Components) (lent : Bytes) (f : Found) → counted lim c ≡ true → Lie lent (allTexts c)
     → read lim (encode (mapParts (taken lent) c)) ≡ ok f → writeCall lim c lent ≡ write (encode (mapParts (taken lent) c))
 unfolding writeCall written need _>>_
 write-accepted lim c lent f n i e = rw (n, i, e)

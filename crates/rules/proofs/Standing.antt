@@ -14,7 +14,7 @@ use Rattle.rules.specs.Head.{Kind, Number, Negative, ByteString, Text, A
 use Rattle.rules.specs.Rules.{Sort, segment, parameter, fragmentText, schemeName}
 use Rattle.rules.specs.Reader.{spanAt, endAt, spans, Slot, unset, set, nullBody, arrayBody, readArray, fragmentBody, readFragment, HostAt, addressAt, labelsAt, addressHost, labelsHost, readAuthority, SchemeAt, noScheme, numberAt, nameAt, OpeningAt, discardAt, discardAllAt, fullAt, opens, afterScheme, openingBody, readOpening, Found, read}
 use Rattle.rules.specs.Meaning.{span, schemeSpan, hostSpans, openingSpans, textSpans, textSpan, components}
-use Rattle.rules.specs.Writing.{labelsOf, hostTexts, schemeTexts, whereSet, openingTexts, openingLabels, allTexts, counted, inside}
+use Rattle.rules.specs.Writing.{labelsOf, hostTexts, schemeTexts, whereSet, openingTexts, openingLabels, allTexts, counted, inside, Lie}
 use Rattle.rules.specs.Views.{segmentView}
 use Rattle.rules.proofs.Tools.{and-left, and-right, and-both, or-left, within-high}
 use Rattle.rules.proofs.Steps.{none-some, Ok, no!, ok!, ok-any, ok-bind, ok-map, ok-need, ok-if, ok-given}
@@ -158,57 +158,54 @@ pub segment-inside : (lim : Limits) (bs : Bytes) (n : ℕ) → Octets bs → Ok 
 unfolding segmentView components
 segment-inside lim bs n sm = ok-bind _ _ (stands lim bs sm) (λ f h. ok-given _ _ _ (λ s e. text-inside (lim .segments) bs (f .path) (h .path) n s e))
 
--- all of these lie inside
-abbrev Within : Bytes → List Span → Type 0
-Within bs ss = all (inside bs) ss ≡ true
-
-none-inside : (bs : Bytes) → Within bs []
+-- spans that lie inside
+pub none-lie : (bs : Bytes) → Lie bs []
 unfolding all
-none-inside bs = refl
+none-lie bs = refl
 
-one-inside : (bs : Bytes) (at n : ℕ) → BytesStand bs at n → Within bs (span at n ∷ [])
+one-inside : (bs : Bytes) (at n : ℕ) → BytesStand bs at n → Lie bs (span at n ∷ [])
 unfolding all inside
 one-inside bs at n h = and-both _ _ (le-leb _ _ h) refl
 
-both-inside : (bs : Bytes) (xs ys : List Span) → Within bs xs → Within bs ys → Within bs (xs ++ ys)
+pub both-lie : (bs : Bytes) (xs ys : List Span) → Lie bs xs → Lie bs ys → Lie bs (xs ++ ys)
 unfolding all
-both-inside bs [] ys h k = k
-both-inside bs (x ∷ xs) ys h k = and-both (inside bs x) _ (and-left (inside bs x) _ h) (both-inside bs xs ys (and-right (inside bs x) _ h) k)
+both-lie bs [] ys h k = k
+both-lie bs (x ∷ xs) ys h k = and-both (inside bs x) _ (and-left (inside bs x) _ h) (both-lie bs xs ys (and-right (inside bs x) _ h) k)
 
-spans-inside : (bs : Bytes) (at n : ℕ) → Items bs at n → Within bs (spans bs at n)
+spans-inside : (bs : Bytes) (at n : ℕ) → Items bs at n → Lie bs (spans bs at n)
 unfolding spans all inside
 spans-inside bs at zero h = refl
 spans-inside bs at (suc n) h = and-both _ _ (le-leb _ _ (h .0 .inside)) (spans-inside bs (endAt bs at) n (h .1))
 
-scheme-inside : (bs : Bytes) (s : SchemeAt) → SchemeStands bs s → Within bs (whereSet schemeTexts (schemeSpan s))
-scheme-inside bs noScheme h = none-inside bs
-scheme-inside bs (numberAt n) h = none-inside bs
+scheme-inside : (bs : Bytes) (s : SchemeAt) → SchemeStands bs s → Lie bs (whereSet schemeTexts (schemeSpan s))
+scheme-inside bs noScheme h = none-lie bs
+scheme-inside bs (numberAt n) h = none-lie bs
 scheme-inside bs (nameAt at n) h = one-inside bs at n h
 
-host-inside : (bs : Bytes) (a : HostAt) → HostStands bs a → Within bs (hostTexts (hostSpans bs a))
+host-inside : (bs : Bytes) (a : HostAt) → HostStands bs a → Lie bs (hostTexts (hostSpans bs a))
 host-inside bs (addressAt at n) h = one-inside bs at n h
 host-inside bs (labelsAt at n) h = spans-inside bs at n (h .each)
 
-opening-inside : (bs : Bytes) (o : OpeningAt) → OpeningStands bs o → Within bs (openingTexts (openingSpans bs o))
-opening-inside bs (discardAt k) h = none-inside bs
-opening-inside bs discardAllAt h = none-inside bs
-opening-inside bs (fullAt s a) h = both-inside bs _ _ (scheme-inside bs s (h .0)) (host-inside bs (a .host) (h .1))
+opening-inside : (bs : Bytes) (o : OpeningAt) → OpeningStands bs o → Lie bs (openingTexts (openingSpans bs o))
+opening-inside bs (discardAt k) h = none-lie bs
+opening-inside bs discardAllAt h = none-lie bs
+opening-inside bs (fullAt s a) h = both-lie bs _ _ (scheme-inside bs s (h .0)) (host-inside bs (a .host) (h .1))
 
-texts-inside : (most : ℕ) (bs : Bytes) (p : Slot) → TextsStand most bs p → Within bs (elements (textSpans bs p))
-texts-inside most bs unset h = none-inside bs
+texts-inside : (most : ℕ) (bs : Bytes) (p : Slot) → TextsStand most bs p → Lie bs (elements (textSpans bs p))
+texts-inside most bs unset h = none-lie bs
 texts-inside most bs (set at n) h = spans-inside bs at n (h .each)
 
-fragment-inside : (bs : Bytes) (p : Slot) → TextStands bs p → Within bs (whereSet (λ t. t ∷ []) (textSpan p))
-fragment-inside bs unset h = none-inside bs
+fragment-inside : (bs : Bytes) (p : Slot) → TextStands bs p → Lie bs (whereSet (λ t. t ∷ []) (textSpan p))
+fragment-inside bs unset h = none-lie bs
 fragment-inside bs (set at n) h = one-inside bs at n h
 
 -- every text and address of the components lies inside
-pub all-inside : (lim : Limits) (bs : Bytes) (f : Found) → FoundStands lim bs f → all (inside bs) (allTexts (components bs f)) ≡ true
+pub all-inside : (lim : Limits) (bs : Bytes) (f : Found) → FoundStands lim bs f → Lie bs (allTexts (components bs f))
 unfolding components
 all-inside lim bs f h =
-    both-inside bs _ _
-    (both-inside bs _ _
-    (both-inside bs _ _ (opening-inside bs (f .opening) (h .opening)) (texts-inside (lim .segments) bs (f .path) (h .path)))
+    both-lie bs _ _
+    (both-lie bs _ _
+    (both-lie bs _ _ (opening-inside bs (f .opening) (h .opening)) (texts-inside (lim .segments) bs (f .path) (h .path)))
     (texts-inside 16 bs (f .query) (h .query)))
     (fragment-inside bs (f .fragment) (h .fragment))
 

@@ -21,8 +21,8 @@ option n v = record { number = n; value = v }
 
 -- 7.1 Uri-Host (3): the joined labels, or the host's URI form if the address differs from the destination's
 unfoldable pub uriHost : Host Bytes → Bytes → List CoapOption
-uriHost (labels ls) destination = option 3 (join dot ls) ∷ []
-uriHost (address a) destination = cond (same a destination) [] (option 3 (addressText a) ∷ [])
+uriHost (labels ls) toAddress = option 3 (join dot ls) ∷ []
+uriHost (address a) toAddress = cond (same a toAddress) [] (option 3 (addressText a) ∷ [])
 
 -- 7.2: big-endian without leading zero bytes, so port 0 has no bytes
 unfoldable pub portBytes : ℕ → Bytes
@@ -30,7 +30,7 @@ portBytes p = cond (eqb p 0) [] (cond (ltb p 256) (p ∷ []) (p / 256 ∷ p % 25
 
 -- 7.2 Uri-Port (7): if the CRI's port, or else the scheme's default, differs from the destination's
 unfoldable pub uriPort : ℕ → ℕ → List CoapOption
-uriPort port destination = cond (eqb port destination) [] (option 7 (portBytes port) ∷ [])
+uriPort port toPort = cond (eqb port toPort) [] (option 7 (portBytes port) ∷ [])
 
 -- 7.3, 7.4: Uri-Path (11) for each segment, none for a path of one empty segment; Uri-Query (15) for each parameter
 unfoldable pub options : Cri → SchemeEntry → Bytes → ℕ → List CoapOption

@@ -1,6 +1,7 @@
 -- RULES 9: writing from components, and the components that reading reports.
 use Prim.Native.Nat.{ℕ, _+_, _^_, _<_}
-use mathlib.Core.Bool.{Bool, _&&_}
+use mathlib.Core.Path.{_≡_}
+use mathlib.Core.Bool.{Bool, true, _&&_}
 use mathlib.Core.List.{List, [], _∷_, _++_}
 use mathlib.Core.Option.{Option, none, some}
 use lib.ListN.{length}
@@ -79,6 +80,10 @@ counted lim c =
 -- 9.2: a span lies inside the lent bytes
 unfoldable pub inside : Bytes → Span → Bool
 inside lent s = leb (s .start + s .length) (length lent)
+
+-- these spans do
+abbrev pub Lie : Bytes → List Span → Type 0
+Lie lent ts = all (inside lent) ts ≡ true
 
 -- a refusal of bytes that the call made up itself has no place in an input
 abbrev pub placeless : {A : Type 0} → Res A → Res A

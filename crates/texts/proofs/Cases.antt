@@ -17,7 +17,7 @@ use Rattle.rules.proofs.Tools.{by-test, length-part, part-cons}
 use Rattle.rules.proofs.Steps.{need-yes, need-no, bind-ok, bind-refused}
 use Rattle.rules.proofs.Texts.{length-contents}
 use Rattle.rules.proofs.Walk.{First}
-use Rattle.texts.specs.Code.{dotted}
+use Rattle.texts.specs.Code.{dottedLength}
 
 -- ---- the table of schemes
 
@@ -110,9 +110,9 @@ octet-three a b c = sym (and-assoc (within 0x31 0x39 a) (digit b) _)
 -- ---- labels
 
 module _ (bs : Bytes) (here left start n : ℕ) (f : First bs here left start n) where
-  pub dotted-next : dotted (contents bs here left) ≡ n + 1 + dotted (contents bs (start + n) (left - 1))
-  unfolding dotted
-  dotted-next = ap dotted (f .content) ∙ ap (λ (k : ℕ). k + 1 + dotted (contents bs (start + n) (left - 1))) (length-part bs start n (f .inside))
+  pub dotted-next : dottedLength (contents bs here left) ≡ n + 1 + dottedLength (contents bs (start + n) (left - 1))
+  unfolding dottedLength
+  dotted-next = ap dottedLength (f .content) ∙ ap (λ (k : ℕ). k + 1 + dottedLength (contents bs (start + n) (left - 1))) (length-part bs start n (f .inside))
 
   pub all-next : (p : Bytes → Bool) → p (part bs start n) ≡ true → all p (contents bs here left) ≡ all p (contents bs (start + n) (left - 1))
   unfolding all
@@ -123,18 +123,18 @@ module _ (bs : Bytes) (here left start n : ℕ) (f : First bs here left start n)
   all-no p e = ap (all p) (f .content) ∙ rw e
 
 -- with a dot after each, labels are one byte longer than with a dot between any two
-dotted-join : (t : Bytes) (ts : List Bytes) → dotted (t ∷ ts) ≡ length (join dot (t ∷ ts)) + 1
-unfolding dotted join
+dotted-join : (t : Bytes) (ts : List Bytes) → dottedLength (t ∷ ts) ≡ length (join dot (t ∷ ts)) + 1
+unfolding dottedLength join
 dotted-join t [] = omega arith
 dotted-join t (u ∷ ts) = omega (arith, length-append t (dot ∷ join dot (u ∷ ts)), dotted-join u ts)
 
-pub name-long : (ts : List Bytes) → 256 < dotted ts → false ≡ nameRule ts
-unfolding nameRule dotted
+pub name-long : (ts : List Bytes) → 256 < dottedLength ts → false ≡ nameRule ts
+unfolding nameRule dottedLength
 name-long [] h = absurd (omega arith)
 name-long (t ∷ ts) h = rw (lt-leb (length (join dot (t ∷ ts))) 255 (omega (arith, dotted-join t ts)))
 
-pub name-looks : (ts : List Bytes) → dotted ts ≤ 256 → not (looksIPv4 ts) ≡ nameRule ts
-unfolding nameRule dotted join
+pub name-looks : (ts : List Bytes) → dottedLength ts ≤ 256 → not (looksIPv4 ts) ≡ nameRule ts
+unfolding nameRule dottedLength join
 name-looks [] h = refl
 name-looks (t ∷ ts) h = rw (le-leb (length (join dot (t ∷ ts))) 255 (omega (arith, dotted-join t ts)))
 

@@ -29,6 +29,6 @@ unfoldable pub knownName : Bytes → Bool
 knownName t = any (λ (e : Rules.SchemeEntry). same t (e .name)) Rules.schemes
 
 -- the length of labels, each with a dot after it
-unfoldable pub dotted : List Bytes → ℕ
-dotted [] = 0
-dotted (t ∷ ts) = length t + 1 + dotted ts
+unfoldable pub dottedLength : List Bytes → ℕ
+dottedLength [] = 0
+dottedLength (t ∷ ts) = length t + 1 + dottedLength ts

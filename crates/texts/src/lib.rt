@@ -8,7 +8,7 @@ ghost use Rattle.rules.specs.Head.{Kind};
 ghost use Rattle.rules.specs.Rules.{schemeByte, startsLower, schemeRule, labelByte, labelRule, segmentRule, octet, looksIPv4, nameRule};
 ghost use Rattle.rules.specs.Reader.{textBody, contents};
 ghost use Rattle.rules.proofs.Texts.{Items};
-ghost use Rattle.texts.specs.Code.{sortIs, stepIs, knownName, dotted};
+ghost use Rattle.texts.specs.Code.{sortIs, stepIs, knownName, dottedLength};
 use utf8::inside;
 
 // What a text is, which settles its least and greatest length and its rule.
@@ -249,7 +249,7 @@ pub fn text_body(s: &[u8], n: u64, next: usize, sort: Sort) -> Step
 // The length of labels that were accepted, each with a dot after it.
 fn dotted_length(s: &[u8], at: usize, count: usize) -> usize
     requires { ⌜ (Items (now s) at count) × (at ≤ length (now s)) ⌝ }
-    ensures { λ r. ⌜ r ≡ dotted (contents (now (s .entry)) at count) ⌝ }
+    ensures { λ r. ⌜ r ≡ dottedLength (contents (now (s .entry)) at count) ⌝ }
 {
     let mut here = at;
     let mut left = count;

@@ -19,8 +19,8 @@ ghost use Rattle.uri_parts.specs.Pieces.{schemePiece, hostPiece, portPie
 use escape::Class;
 use escape::bare_bits;
 use escape::escaped_length;
-use escape::hex_digits;
 use escape::put_escaped;
+use escape::upper_hex_digits;
 use escaped_runs::put_run;
 use escaped_runs::run_length;
 use ipv4::ipv4_length;
@@ -253,7 +253,7 @@ pub fn put_fragment(room: &mut [u8], at: usize, s: &[u8], fragment: Slot) -> usi
         Slot::Unset => at,
         Slot::Set(from, n) => {
             let bits = bare_bits(Class::Fragment);
-            let digits = hex_digits();
+            let digits = upper_hex_digits();
             let p = put_byte(room, at, b'#');
             put_escaped(room, p, s, from, n, Class::Fragment, &bits, &digits)
         }

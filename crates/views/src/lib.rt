@@ -63,7 +63,7 @@ fn path_segment(s: &[u8], path: Slot, n: usize) -> View
 }
 
 // The n-th segment of an input.
-fn segment_at(s: &[u8], n: usize) -> View
+fn nth_segment(s: &[u8], n: usize) -> View
     ensures { λ r. ⌜ viewIs r ≡ segmentView limits (now (s .entry)) n ⌝ }
 {
     match reader::read(s) {
@@ -79,7 +79,7 @@ fn segment_at(s: &[u8], n: usize) -> View
 pub fn segment(s: &[u8], n: usize) -> &[u8]
     ensures { λ r. ⌜ PartOf (s .entry) r (segmentShown (segmentView limits (now (s .entry)) n)) ⌝ }
 {
-    match segment_at(s, n) {
+    match nth_segment(s, n) {
         View::At(span) => {
             let start = span.start;
             let end = start + span.length;
@@ -93,7 +93,7 @@ pub fn segment(s: &[u8], n: usize) -> &[u8]
 pub fn segment_number(s: &[u8], n: usize) -> u8
     ensures { λ r. ⌜ r ≡ numberOf (segmentView limits (now (s .entry)) n) ⌝ }
 {
-    match segment_at(s, n) {
+    match nth_segment(s, n) {
         View::At(_) => 0,
         View::Refused(k, _) => k,
     }
@@ -143,7 +143,7 @@ fn chosen_item(reference: OpeningAt, base: OpeningAt) -> Piece
 }
 
 // The authority that the reference brings, else the base's. The base is judged first.
-fn authority_at(reference: &[u8], base: &[u8]) -> Piece
+fn chosen_authority(reference: &[u8], base: &[u8]) -> Piece
     ensures { λ r. ⌜ pieceIs r ≡ authorityView limits (now (reference .entry)) (now (base .entry)) ⌝ }
 {
     match absolutes::read_base(base) {
@@ -163,7 +163,7 @@ fn authority_at(reference: &[u8], base: &[u8]) -> Piece
 pub fn authority<'a>(reference: &'a [u8], base: &'a [u8]) -> &'a [u8]
     ensures { λ r. ⌜ PieceOf (reference .entry) (base .entry) r (pieceShown (authorityView limits (now (reference .entry)) (now (base .entry)))) ⌝ }
 {
-    match authority_at(reference, base) {
+    match chosen_authority(reference, base) {
         Piece::OfReference(span) => {
             let start = span.start;
             let end = start + span.length;
@@ -182,7 +182,7 @@ pub fn authority<'a>(reference: &'a [u8], base: &'a [u8]) -> &'a [u8]
 pub fn authority_number(reference: &[u8], base: &[u8]) -> u8
     ensures { λ r. ⌜ r ≡ numberOf (authorityView limits (now (reference .entry)) (now (base .entry))) ⌝ }
 {
-    match authority_at(reference, base) {
+    match chosen_authority(reference, base) {
         Piece::OfReference(_) => 0,
         Piece::OfBase(_) => 0,
         Piece::Refused(k, _) => k,

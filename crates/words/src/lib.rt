@@ -25,8 +25,23 @@ pub enum Hex {
     TooLong,
 }
 
+// The place of the first byte b from a position on, or the length.
+pub fn find(s: &[u8], at: usize, b: u8) -> usize
+    requires { ⌜ at ≤ length (now s) ⌝ }
+    ensures { λ r. ⌜ (at ≤ r) × (r ≤ length (now (s .entry))) ⌝ }
+{
+    let mut i = at;
+    while i < s.len() {
+        if s[i] == b {
+            return i;
+        }
+        i += 1;
+    }
+    i
+}
+
 // The value of a digit, "0" to "9" and "a" to "f"; 16 for any other byte.
-fn value_of(c: u8) -> u8
+pub fn value_of(c: u8) -> u8
     ensures { λ r. ⌜ r ≡ valueOf c ⌝ }
 {
     match c {

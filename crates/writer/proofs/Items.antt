@@ -13,14 +13,15 @@ use Rattle.rules.specs.Head.{Kind, Number, ByteString, Array, headBytes}
 use Rattle.rules.specs.Model.{Scheme, Authority, Host, address, labels, Opening, discard, discardAll, full, Span, Components, elements, limits}
 use Rattle.rules.specs.Reader.{taken}
 use Rattle.rules.specs.Encode.{textItem, arrayItem, textsItem, nullItem, orNull, tailItems, portItems, hostItems, authorityItem, discardAlone, withOpening}
-use Rattle.rules.specs.Writing.{hostTexts, schemeTexts, whereSet, openingTexts, openingLabels, counted, inside}
+use Rattle.rules.specs.Writing.{hostTexts, schemeTexts, whereSet, openingTexts, openingLabels, counted, inside, Lie}
 use Rattle.rules.proofs.Tools.{and-left, and-right, and-both, length-part, concat-append}
+use Rattle.rules.proofs.Standing.{none-lie, both-lie}
 use Rattle.cbor.specs.declared.Span as Code
 use Rattle.cbor.specs.Heads.{spanIs}
 use Rattle.rules.specs.Views.{nowhere}
 use Rattle.components.specs.Layout.{spanLaid}
 use Rattle.components.specs.Content.{spansOf}
-use Rattle.writer.specs.Items.{Lie, Few, AuthorityMay, OpeningMay, TailMay, May, stringItem, textItems, authorityItems, discardItems, openingItems, fragmentItems}
+use Rattle.writer.specs.Items.{Few, AuthorityMay, OpeningMay, TailMay, May, stringItem, textItems, authorityItems, discardItems, openingItems, fragmentItems}
 
 -- an item by itself
 pub one-item : (x : Bytes) → x ≡ concat (x ∷ [])
@@ -40,11 +41,7 @@ lying lent s e = leb-true (s .start + s .length) (length lent) e
 pub length-taken : (lent : Bytes) (s : Span) → inside lent s ≡ true → length (taken lent s) ≡ s .length
 length-taken lent s e = length-part lent (s .start) (s .length) (lying lent s e)
 
--- one span, or none
-pub none-lie : (lent : Bytes) → Lie lent []
-unfolding all
-none-lie lent = refl
-
+-- one span
 pub one-lies : (lent : Bytes) (s : Span) → inside lent s ≡ true → Lie lent (s ∷ [])
 unfolding all
 one-lies lent s e = and-both (inside lent s) true e refl
@@ -54,11 +51,6 @@ unfolding all
 one-lying lent s e = and-left (inside lent s) true e
 
 -- those of two lists
-pub both-lie : (lent : Bytes) (ss ts : List Span) → Lie lent ss → Lie lent ts → Lie lent (ss ++ ts)
-unfolding all
-both-lie lent [] ts a b = b
-both-lie lent (s ∷ ss) ts a b = and-both (inside lent s) (all (inside lent) (ss ++ ts)) (and-left (inside lent s) (all (inside lent) ss) a) (both-lie lent ss ts (and-right (inside lent s) (all (inside lent) ss) a) b)
-
 pub first-lie : (lent : Bytes) (ss ts : List Span) → Lie lent (ss ++ ts) → Lie lent ss
 unfolding all
 first-lie lent [] ts a = refl

@@ -9,10 +9,10 @@ use Rattle.rules.specs.Head.{Text}
 use Rattle.rules.specs.Model.{Span}
 use Rattle.rules.specs.Reader.{taken}
 use Rattle.rules.specs.Encode.{textItem}
-use Rattle.rules.specs.Writing.{inside}
+use Rattle.rules.specs.Writing.{inside, Lie}
 use Rattle.rules.proofs.Tools.{and-left, and-right, and-both}
 use Rattle.writer.specs.Added.{Added}
-use Rattle.writer.specs.Items.{Lie, stringItem, textItems}
+use Rattle.writer.specs.Items.{stringItem, textItems}
 use Rattle.writer.proofs.Laws.{added-none, added-as, Rest, rest-next, rest-as}
 
 abbrev pub TextsLeft : Bytes → List Span → Bytes → ℕ → ℕ → Bytes → ℕ → Type 0

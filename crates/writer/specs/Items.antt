@@ -6,20 +6,16 @@ use mathlib.Core.List.{List, [], _∷_, _++_, map}
 use mathlib.Core.Option.{Option, none, some}
 use lib.ListN.{length}
 use lib.Dec.{leb}
-use Rattle.rules.specs.Bytes.{Bytes, all, concat}
+use Rattle.rules.specs.Bytes.{Bytes, concat}
 use Rattle.rules.specs.Head.{Kind, Number, headBytes}
 use Rattle.rules.specs.Model.{Authority, Opening, discard, discardAll, full, Span, Parts, Reference, mapParts, elements, limits}
 use Rattle.rules.specs.Reader.{taken}
 use Rattle.rules.specs.Encode.{textItem, nullItem, trueItem, orNull, authorityItem, schemeItem, discardAlone, tailItems}
-use Rattle.rules.specs.Writing.{labelsOf, hostTexts, whereSet, openingTexts, openingLabels, allTexts, counted, inside}
+use Rattle.rules.specs.Writing.{labelsOf, hostTexts, whereSet, openingTexts, openingLabels, allTexts, counted, Lie}
 use Rattle.components.specs.declared.Components.{Components}
 use Rattle.components.specs.Content.{componentsOf}
 
 -- ---- when they may be added
-
--- 9.2: these spans lie inside the lent bytes
-abbrev pub Lie : Bytes → List Span → Type 0
-Lie lent ts = all (inside lent) ts ≡ true
 
 -- 9.2: at most so many, and they lie inside
 abbrev pub Few : Bytes → ℕ → List Span → Type 0

@@ -27,13 +27,13 @@ returns c =
     let none : ⊥ = omega (arith, escape-length (classIs (k .class-of .result)) (part src 0 (length src)), length-part src 0 (length src) (omega arith)) in
     absurd none
 
-hex-digits-requires : tie.Need-hex-digits-requires
-hex-digits-requires c κs = search needs
+upper-hex-digits-requires : tie.Need-upper-hex-digits-requires
+upper-hex-digits-requires c κs = search needs
 
 put-escaped-requires : tie.Need-put-escaped-requires
 put-escaped-requires c κs =
     let d = c .before .before .before in
-    ((d .before .before .before .before .bare-bits .ensures, d .hex-digits .ensures), (omega arith, omega arith))
+    ((d .before .before .before .before .bare-bits .ensures, d .upper-hex-digits .ensures), (omega arith, omega arith))
 
 same-length : tie.Need-same-length
 same-length c = search needs
@@ -51,7 +51,7 @@ bench-put-escaped-spec =
     bare-bits-requires
     escaped-length-requires
     returns
-    hex-digits-requires
+    upper-hex-digits-requires
     put-escaped-requires
     same-length
     returns-2)

@@ -6,7 +6,7 @@ use Rattle.cri_lines.proofs.answer_lines.Statement.{statement}
 use Rattle.cri_lines.proofs.answer_lines.Tie as tie
 
 abbrev Inv-loop : tie.InvT-loop
-Inv-loop out₀ input kept used₀ at₀ end₀ out used at end = (at ≤ end) × (end ≤ length input) × (used ≤ 65536)
+Inv-loop out₀ input kept used₀ at₀ end₀ out used at end = (at ≤ end) × (end ≤ length input)
 
 abbrev μ-loop : tie.MeasureT-loop
 μ-loop out₀ input kept used₀ at₀ end₀ out used at end = length input - end

@@ -9,7 +9,7 @@ use Rattle.rules.proofs.Texts.{Items}
 use Rattle.rules.proofs.Walk.{First, first, first-stands}
 use Rattle.put.proofs.Laws.{Count, count-all, counted}
 use Rattle.escape.specs.Escape.{classIs}
-use Rattle.escaped_runs.specs.Marked.{marked}
+use Rattle.escaped_runs.specs.Marked.{markedEach}
 use Rattle.escaped_runs.proofs.Laws.{marked-length, marked-most}
 use Rattle.escaped_runs.proofs.Walk.{turn-count, none-marked}
 use borrow.Author.Needs.{needs}
@@ -18,7 +18,7 @@ use Rattle.escaped_runs.proofs.marked_length.Tie as tie
 
 abbrev Inv-loop : tie.InvT-loop
 Inv-loop s at count class bits next₀ left₀ total₀ next left total =
-    Items s next left × Count total (marked (classIs class) 0 0 (contents s next left)) (length (marked (classIs class) 0 0 (contents s at count)))
+    Items s next left × Count total (markedEach (classIs class) 0 0 (contents s next left)) (length (markedEach (classIs class) 0 0 (contents s at count)))
 
 abbrev μ-loop : tie.MeasureT-loop
 μ-loop s at count class bits next₀ left₀ total₀ next left total = left

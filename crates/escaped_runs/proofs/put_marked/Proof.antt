@@ -6,7 +6,7 @@ use Rattle.rules.proofs.Texts.{Items}
 use Rattle.rules.proofs.Walk.{First, first, first-stands}
 use Rattle.put.proofs.Laws.{Left, left-all, left-done, next-room, next-wrote, wrote-then, wrote-length}
 use Rattle.escape.specs.Escape.{classIs}
-use Rattle.escaped_runs.specs.Marked.{marked}
+use Rattle.escaped_runs.specs.Marked.{markedEach}
 use Rattle.escaped_runs.proofs.Walk.{turn-next, none-marked}
 use borrow.Author.Needs.{needs}
 use Rattle.escaped_runs.proofs.put_marked.Statement.{statement}
@@ -14,7 +14,7 @@ use Rattle.escaped_runs.proofs.put_marked.Tie as tie
 
 abbrev Inv-loop : tie.InvT-loop
 Inv-loop room₀ at s from count class first further bits digits next₀ left₀ mark₀ o₀ room next left mark o =
-    Items s next left × Left room o (marked (classIs class) mark further (contents s next left)) room₀ at (marked (classIs class) first further (contents s from count))
+    Items s next left × Left room o (markedEach (classIs class) mark further (contents s next left)) room₀ at (markedEach (classIs class) first further (contents s from count))
 
 abbrev μ-loop : tie.MeasureT-loop
 μ-loop room₀ at s from count class first further bits digits next₀ left₀ mark₀ o₀ room next left mark o = left
@@ -27,8 +27,8 @@ turn c = first _ _ _ _ _ (c .before .loop-test .taken) (c .before .before .loop 
 bare-bits-requires : tie.Need-bare-bits-requires Inv-loop μ-loop
 bare-bits-requires c κs = search needs
 
-hex-digits-requires : tie.Need-hex-digits-requires Inv-loop μ-loop
-hex-digits-requires c κs = search needs
+upper-hex-digits-requires : tie.Need-upper-hex-digits-requires Inv-loop μ-loop
+upper-hex-digits-requires c κs = search needs
 
 loop-holds : tie.Need-loop-holds Inv-loop μ-loop
 loop-holds c = (c .before .before .before .before .pre .0, left-all)
@@ -48,7 +48,7 @@ put-escaped-requires c κs =
     let t = turn (p .before .before) in
     let l = p .before .before .before .before in
     let s = l .before .before .before .before .before in (
-      (l .before .before .bare-bits .ensures, l .before .hex-digits .ensures),
+      (l .before .before .bare-bits .ensures, l .before .upper-hex-digits .ensures),
       (t .inside, omega (arith, next-room (turn-next (classIs (s .args .class)) t (l .loop .mark) (s .args .further) (l .loop .inv .1)) (s .pre .1), wrote-length (p .put-byte .ensures))),
     )
 
@@ -86,7 +86,7 @@ put-marked-spec =
     Inv-loop
     μ-loop
     bare-bits-requires
-    hex-digits-requires
+    upper-hex-digits-requires
     loop-holds
     span-at-requires
     put-byte-requires

@@ -4,10 +4,11 @@ use native.Mathlib.Omega.{arith}
 use mathlib.Core.Path.{_≡_, refl, ap₂}
 use lib.ListN.{length}
 use Rattle.rules.specs.Head.{width, shortest, headBytes}
+use Rattle.rules.proofs.Heads.{major-most}
 use Rattle.put.proofs.Laws.{wrote-then}
 use Rattle.cbor.specs.Heads.{kindIs}
 use Rattle.cbor.proofs.Heads.{width-most}
-use Rattle.heads.proofs.Laws.{shortest-most, major-most, length-head}
+use Rattle.heads.proofs.Laws.{shortest-most, length-head}
 use borrow.Author.Needs.{needs}
 use Rattle.heads.proofs.put_head.Statement.{statement}
 use Rattle.heads.proofs.put_head.Tie as tie

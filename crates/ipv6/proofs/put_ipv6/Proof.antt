@@ -3,14 +3,14 @@ use Prim.Native.Nat.{_+_, _-_, _≤_}
 use native.Mathlib.Omega.{arith}
 use mathlib.Core.Path.{_≡_, ap}
 use mathlib.Core.List.{[], _∷_, _++_}
-use lib.ListN.{length, length-append}
+use lib.ListN.{length}
 use denote.Ref.{now}
 use Rattle.rules.specs.Bytes.{Bytes, part, colon}
 use Rattle.rules.specs.Address.{groups, hexGroups, ipv6Text}
 use Rattle.put.proofs.Laws.{wrote-then}
 use Rattle.ipv6.specs.declared.Zeros.{Zeros}
 use Rattle.ipv6.proofs.Groups.{eight-groups}
-use Rattle.ipv6.proofs.Texts.{run-inside, ipv6-whole, ipv6-cut}
+use Rattle.ipv6.proofs.Texts.{run-inside, ipv6-whole, ipv6-cut, ipv6-lengths}
 use borrow.Author.Needs.{needs}
 use Rattle.ipv6.proofs.put_ipv6.Statement.{statement}
 use Rattle.ipv6.proofs.put_ipv6.Tie as tie
@@ -48,10 +48,10 @@ module _ (c : tie.Else1) where
   cut = ipv6-cut (bytesOf start) (eight start) run (c .before .before .longest-run .ensures) (c .if1 .left)
 
   lengths : length (ipv6Text (bytesOf start)) ≡ length head + (2 + length tail)
-  lengths = omega (arith, ap length cut, length-append head ((colon ∷ colon ∷ []) ++ tail))
+  lengths = ipv6-lengths (bytesOf start) (eight start) run (c .before .before .longest-run .ensures) (c .if1 .left)
 
-hex-digits-requires : tie.Need-hex-digits-requires
-hex-digits-requires c κs = search needs
+lower-hex-digits-requires : tie.Need-lower-hex-digits-requires
+lower-hex-digits-requires c κs = search needs
 
 longest-run-requires : tie.Need-longest-run-requires
 longest-run-requires c κs = search needs
@@ -60,7 +60,7 @@ put-groups-requires : tie.Need-put-groups-requires
 put-groups-requires c κs =
     let t = c .before .before in
     let s = t .before .before .before .before .before .before in
-    (t .before .before .before .hex-digits .ensures, ((s .pre .0, omega arith), omega (arith, ap length (whole t))))
+    (t .before .before .before .lower-hex-digits .ensures, ((s .pre .0, omega arith), omega (arith, ap length (whole t))))
 
 same-length : tie.Need-same-length
 same-length c = search needs
@@ -71,7 +71,7 @@ returns c = rw (whole (c .before .before .before .before .before)) (c .before .b
 put-groups-requires-2 : tie.Need-put-groups-requires-2
 put-groups-requires-2 c κs =
     let e = c .before .before in
-    (e .before .before .before .hex-digits .ensures, ((start e .pre .0, omega (arith, inside e)), omega (arith, lengths e)))
+    (e .before .before .before .lower-hex-digits .ensures, ((start e .pre .0, omega (arith, inside e)), omega (arith, lengths e)))
 
 slice-aggregate-put-bytes : tie.Need-slice-aggregate-put-bytes
 slice-aggregate-put-bytes c = search needs
@@ -88,7 +88,7 @@ sub-put-groups c = omega (arith, inside (c .before .before .before .before .befo
 put-groups-requires-3 : tie.Need-put-groups-requires-3
 put-groups-requires-3 c κs =
     let e = c .before .before .before .before .before .before .before .before .before .before .before .before .before in
-    (e .before .before .before .hex-digits .ensures, ((start e .pre .0, omega (arith, inside e)), omega (arith, lengths e)))
+    (e .before .before .before .lower-hex-digits .ensures, ((start e .pre .0, omega (arith, inside e)), omega (arith, lengths e)))
 
 same-length-2 : tie.Need-same-length-2
 same-length-2 c = search needs
@@ -104,7 +104,7 @@ pub put-ipv6-spec : {M : Type 1} → statement M
 put-ipv6-spec =
     tie.close
     (tie.spec
-    hex-digits-requires
+    lower-hex-digits-requires
     longest-run-requires
     put-groups-requires
     same-length

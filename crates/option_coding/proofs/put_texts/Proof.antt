@@ -13,11 +13,11 @@ use Rattle.option_coding.proofs.put_texts.Statement.{statement}
 use Rattle.option_coding.proofs.put_texts.Tie as tie
 
 abbrev Inv-loop : tie.InvT-loop
-Inv-loop room₀ at s from count delta next₀ left₀ over₀ o₀ room next left over o =
-    Items s next left × AllSmall (contents s next left) × Small over × Left room o (coded over (contents s next left)) room₀ at (coded delta (contents s from count))
+Inv-loop room₀ at s from count delta next₀ left₀ difference₀ o₀ room next left difference o =
+    Items s next left × AllSmall (contents s next left) × Small difference × Left room o (coded difference (contents s next left)) room₀ at (coded delta (contents s from count))
 
 abbrev μ-loop : tie.MeasureT-loop
-μ-loop room₀ at s from count delta next₀ left₀ over₀ o₀ room next left over o = left
+μ-loop room₀ at s from count delta next₀ left₀ difference₀ o₀ room next left difference o = left
 
 -- the text that the span is of
 turn : (c : tie.After-span-at Inv-loop μ-loop) → let l = c .before .before .loop in let a = c .before .before .before .before .before .args in
@@ -36,7 +36,7 @@ put-option-requires c κs =
     let start = loop′ .before .before .before in
     let t = turn (c .before) in
     let l = loop′ .loop in
-    ((omega (arith, l .inv .2, start .pre .1 .0), turn-small t (l .inv .1)), (t .inside, next-room (turn-next t (l .over) (l .inv .3)) (start .pre .1 .1)))
+    ((omega (arith, l .inv .2, start .pre .1 .0), turn-small t (l .inv .1)), (t .inside, next-room (turn-next t (l .difference) (l .inv .3)) (start .pre .1 .1)))
 
 add-next : tie.Need-add-next Inv-loop μ-loop
 add-next c = omega (arith, turn (c .before .before .before .before .before) .inside)
@@ -53,7 +53,7 @@ loop-again c =
     let loop′ = put-option′ .before .before .before .before in
     let t = turn (c .before .before .before .before .before) in
     let l = loop′ .loop in
-    (t .others, turn-others t (l .inv .1), omega arith, next-wrote (turn-next t (l .over) (l .inv .3)) (put-option′ .put-option .ensures))
+    (t .others, turn-others t (l .inv .1), omega arith, next-wrote (turn-next t (l .difference) (l .inv .3)) (put-option′ .put-option .ensures))
 
 same-length : tie.Need-same-length Inv-loop μ-loop
 same-length c = c .before .loop .inv .3 .size
@@ -61,7 +61,7 @@ same-length c = c .before .loop .inv .3 .size
 returns : tie.Need-returns Inv-loop μ-loop
 returns c =
     let l = c .before .loop in
-    left-done (rw (none-coded (l .over) (now (c .before .before .before .before .args .s)) (l .next) (l .left) (c .loop-test .left)) at (l .inv .3))
+    left-done (rw (none-coded (l .difference) (now (c .before .before .before .before .args .s)) (l .next) (l .left) (c .loop-test .left)) at (l .inv .3))
 
 pub put-texts-spec : {M : Type 1} → statement M
 put-texts-spec =

@@ -18,11 +18,11 @@ use Rattle.option_coding.proofs.texts_length.Statement.{statement}
 use Rattle.option_coding.proofs.texts_length.Tie as tie
 
 abbrev Inv-loop : tie.InvT-loop
-Inv-loop s at count delta next₀ left₀ over₀ total₀ next left over total =
-    Items s next left × AllSmall (contents s next left) × Small over × Count total (coded over (contents s next left)) (length (coded delta (contents s at count)))
+Inv-loop s at count delta next₀ left₀ difference₀ total₀ next left difference total =
+    Items s next left × AllSmall (contents s next left) × Small difference × Count total (coded difference (contents s next left)) (length (coded delta (contents s at count)))
 
 abbrev μ-loop : tie.MeasureT-loop
-μ-loop s at count delta next₀ left₀ over₀ total₀ next left over total = left
+μ-loop s at count delta next₀ left₀ difference₀ total₀ next left difference total = left
 
 -- the text that the span is of
 turn : (c : tie.After-span-at Inv-loop μ-loop) → let l = c .before .before .loop in let a = c .before .before .before .before .args in
@@ -37,7 +37,7 @@ fits c =
     let a = s .args in
     let t = turn (c .before) in
     let p = c .before .span-at .result in
-    omega (arith, turn-count t (l .over) (l .inv .3) .sum, c .option-length .ensures (part (now (a .s)) (p .start) (p .length)) (length-part (now (a .s)) (p .start) (p .length) (t .inside)), s .pre .1 .0, coded-most (a .delta) (now (a .s)) (a .at) (a .count) (s .pre .1 .1) (s .pre .0 .0) (s .pre .0 .1))
+    omega (arith, turn-count t (l .difference) (l .inv .3) .sum, c .option-length .ensures (part (now (a .s)) (p .start) (p .length)) (length-part (now (a .s)) (p .start) (p .length) (t .inside)), s .pre .1 .0, coded-most (a .delta) (now (a .s)) (a .at) (a .count) (s .pre .1 .1) (s .pre .0 .0) (s .pre .0 .1))
 
 loop-holds : tie.Need-loop-holds Inv-loop μ-loop
 loop-holds c = (c .before .pre .0 .0, c .before .pre .0 .1, c .before .pre .1 .1, count-all)
@@ -65,12 +65,12 @@ loop-again c =
     let option-length′ = c .before in
     let loop′ = option-length′ .before .before .before in
     let t = turn (c .before .before) in
-    (t .others, turn-others t (loop′ .loop .inv .1), omega arith, counted (turn-count t (loop′ .loop .over) (loop′ .loop .inv .3)) (option-length′ .option-length .ensures _ (length-part _ _ _ (t .inside))))
+    (t .others, turn-others t (loop′ .loop .inv .1), omega arith, counted (turn-count t (loop′ .loop .difference) (loop′ .loop .inv .3)) (option-length′ .option-length .ensures _ (length-part _ _ _ (t .inside))))
 
 returns : tie.Need-returns Inv-loop μ-loop
 returns c =
     let l = c .before .loop in
-    omega (arith, l .inv .3 .sum, ap length (none-coded (l .over) (now (c .before .before .before .args .s)) (l .next) (l .left) (c .loop-test .left)))
+    omega (arith, l .inv .3 .sum, ap length (none-coded (l .difference) (now (c .before .before .before .args .s)) (l .next) (l .left) (c .loop-test .left)))
 
 pub texts-length-spec : {M : Type 1} → statement M
 texts-length-spec =

@@ -27,8 +27,8 @@ refused-requires c κs = search needs
 enum-known-found : tie.Need-enum-known-found
 enum-known-found c = search needs
 
-of-found-requires : tie.Need-of-found-requires
-of-found-requires c κs =
+options-of-found-requires : tie.Need-options-of-found-requires
+options-of-found-requires c κs =
     let found′ = c .before .before in
     let read′ = found′ .before .before in
     let shared-slice-known′ = read′ .before .before .before .before .before in
@@ -54,8 +54,8 @@ same-length c = search needs
 
 returns-2 : tie.Need-returns-2
 returns-2 c =
-    let of-found′ = c .before .before in
-    let found′ = of-found′ .before .before .before in
+    let options-of-found′ = c .before .before in
+    let found′ = options-of-found′ .before .before .before in
     let read′ = found′ .before .before in
     let if1′ = read′ .before in
     let is-address-length′ = if1′ .before in
@@ -64,7 +64,7 @@ returns-2 c =
     let t = sym (is-address-length′ .is-address-length .ensures) ∙ if1′ .if1 .taken in
     let e = sym (read′ .read .ensures) ∙ ap answerIs (found′ .found .given .1) in
     let u = sym (found-ruled (now (a .s)) (now (a .address)) (a .port) t _ e) in
-    (of-found′ .of-found .ensures .0 ∙ ap (λ (r : Ruling). outcome r (length (now (a .room)))) u, of-found′ .of-found .ensures .1 ∙ ap (λ (r : Ruling). after r (now (a .room))) u)
+    (options-of-found′ .options-of-found .ensures .0 ∙ ap (λ (r : Ruling). outcome r (length (now (a .room)))) u, options-of-found′ .options-of-found .ensures .1 ∙ ap (λ (r : Ruling). after r (now (a .room))) u)
 
 refused-requires-2 : tie.Need-refused-requires-2
 refused-requires-2 c κs = search needs
@@ -87,7 +87,7 @@ options-spec =
     enum-known-k
     refused-requires
     enum-known-found
-    of-found-requires
+    options-of-found-requires
     returns
     same-length
     returns-2

@@ -53,12 +53,12 @@ add-result-3 c =
     omega (arith, s .pre .0, value-most 3 (r .host) (omega arith) (k .host) (value-length′ .value-length .ensures), value-most (d .port) (r .port) (m .port) (k .port) (value-length2′ .value-length2 .ensures), texts-length′ .texts-length .ensures, coded-most (d .path) (now (s .args .s)) (r .path .at) (r .path .count) (m .path) (k .path .0) (k .path .1), c .texts-length2 .ensures, coded-most (d .query) (now (s .args .s)) (r .query .at) (r .query .count) (m .query) (k .query .0) (k .query .1))
 
 returns : tie.Need-returns
-returns c name number h p =
+returns c hostSrc portSrc h p =
     let texts-length′ = c .before in
     let value-length2′ = texts-length′ .before in
     let value-length′ = value-length2′ .before in
     let s = value-length′ .before .before .before .before in
-    omega (arith, value-length′ .value-length .ensures name h, value-length2′ .value-length2 .ensures number p, texts-length′ .texts-length .ensures, c .texts-length2 .ensures, pieces-sum name number (now (s .args .s)) (s .args .request) (s .args .deltas))
+    omega (arith, value-length′ .value-length .ensures hostSrc h, value-length2′ .value-length2 .ensures portSrc p, texts-length′ .texts-length .ensures, c .texts-length2 .ensures, pieces-sum hostSrc portSrc (now (s .args .s)) (s .args .request) (s .args .deltas))
 
 pub options-length-spec : {M : Type 1} → statement M
 options-length-spec =

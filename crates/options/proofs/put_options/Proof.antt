@@ -12,7 +12,7 @@ put-value-requires c κs =
     let s = c .before .before .before .before .before .before .before in
     let k = s .pre .0 .0 in
     let m = s .pre .0 .1 in
-    let z = pieces-sum (now (s .args .name)) (now (s .args .number)) (now (s .args .s)) (s .args .request) (s .args .deltas) in
+    let z = pieces-sum (now (s .args .host-src)) (now (s .args .port-src)) (now (s .args .s)) (s .args .request) (s .args .deltas) in
     ((omega arith, k .host), (s .pre .1 .0 .0, omega (arith, s .pre .1 .1, z)))
 
 put-value-requires-2 : tie.Need-put-value-requires-2
@@ -21,7 +21,7 @@ put-value-requires-2 c κs =
     let s = put-value′ .before .before .before .before .before .before .before .before in
     let k = s .pre .0 .0 in
     let m = s .pre .0 .1 in
-    let z = pieces-sum (now (s .args .name)) (now (s .args .number)) (now (s .args .s)) (s .args .request) (s .args .deltas) in
+    let z = pieces-sum (now (s .args .host-src)) (now (s .args .port-src)) (now (s .args .s)) (s .args .request) (s .args .deltas) in
     ((m .port, k .port), (s .pre .1 .0 .1, omega (arith, s .pre .1 .1, z, put-value′ .put-value .ensures .place, wrote-length (put-value′ .put-value .ensures))))
 
 put-texts-requires : tie.Need-put-texts-requires
@@ -31,7 +31,7 @@ put-texts-requires c κs =
     let s = put-value′ .before .before .before .before .before .before .before .before in
     let k = s .pre .0 .0 in
     let m = s .pre .0 .1 in
-    let z = pieces-sum (now (s .args .name)) (now (s .args .number)) (now (s .args .s)) (s .args .request) (s .args .deltas) in
+    let z = pieces-sum (now (s .args .host-src)) (now (s .args .port-src)) (now (s .args .s)) (s .args .request) (s .args .deltas) in
     (k .path, (m .path, omega (arith, s .pre .1 .1, z, put-value′ .put-value .ensures .place, wrote-length (put-value′ .put-value .ensures), put-value2′ .put-value2 .ensures .place, wrote-length (put-value2′ .put-value2 .ensures))))
 
 put-texts-requires-2 : tie.Need-put-texts-requires-2
@@ -42,7 +42,7 @@ put-texts-requires-2 c κs =
     let s = put-value′ .before .before .before .before .before .before .before .before in
     let k = s .pre .0 .0 in
     let m = s .pre .0 .1 in
-    let z = pieces-sum (now (s .args .name)) (now (s .args .number)) (now (s .args .s)) (s .args .request) (s .args .deltas) in
+    let z = pieces-sum (now (s .args .host-src)) (now (s .args .port-src)) (now (s .args .s)) (s .args .request) (s .args .deltas) in
     (k .query, (m .query, omega (arith, s .pre .1 .1, z, put-value′ .put-value .ensures .place, wrote-length (put-value′ .put-value .ensures), put-value2′ .put-value2 .ensures .place, wrote-length (put-value2′ .put-value2 .ensures), put-texts′ .put-texts .ensures .place, wrote-length (put-texts′ .put-texts .ensures))))
 
 same-length : tie.Need-same-length

@@ -42,7 +42,7 @@ options-length-requires c κs =
     let s = host-value′ .before .before .before .before .before in
     let a = s .args in
     let q = parameters′ .parameters .ensures (now (a .s)) (s .pre .1 .1 .1) in
-    (s .pre .0, (stands _ _ _ _ _ (c .deltas-of .ensures) (hostOf (a .host)) (a .port) (slotOf (a .path)) (slotOf (a .query)) (now (a .address)) (a .destination) (host-value′ .host-value .ensures) (port-value′ .port-value .ensures) (segments′ .segments .ensures) q, deltas-small (c .deltas-of .ensures)))
+    (s .pre .0, (stands _ _ _ _ _ (c .deltas-of .ensures) (hostOf (a .host)) (a .port) (slotOf (a .path)) (slotOf (a .query)) (now (a .to-address)) (a .to-port) (host-value′ .host-value .ensures) (port-value′ .port-value .ensures) (segments′ .segments .ensures) q, deltas-small (c .deltas-of .ensures)))
 
 refused-requires : tie.Need-refused-requires
 refused-requires c κs = search needs
@@ -59,8 +59,8 @@ returns c =
     let s = host-value′ .before .before .before .before .before in
     let a = s .args in
     let q = parameters′ .parameters .ensures (now (a .s)) (s .pre .1 .1 .1) in
-    let w = optionsAt (now (a .s)) (hostOf (a .host)) (a .port) (slotOf (a .path)) (slotOf (a .query)) (now (a .address)) (a .destination) in
-    let e = pieces-are _ _ _ _ _ (deltas-of′ .deltas-of .ensures) (hostOf (a .host)) (a .port) (slotOf (a .path)) (slotOf (a .query)) (now (a .address)) (a .destination) (host-value′ .host-value .ensures) (port-value′ .port-value .ensures) (segments′ .segments .ensures) q in
+    let w = optionsAt (now (a .s)) (hostOf (a .host)) (a .port) (slotOf (a .path)) (slotOf (a .query)) (now (a .to-address)) (a .to-port) in
+    let e = pieces-are _ _ _ _ _ (deltas-of′ .deltas-of .ensures) (hostOf (a .host)) (a .port) (slotOf (a .path)) (slotOf (a .query)) (now (a .to-address)) (a .to-port) (host-value′ .host-value .ensures) (port-value′ .port-value .ensures) (segments′ .segments .ensures) q in
     let n = options-length′ .options-length .ensures _ _ (host-value′ .host-value .ensures .inside) (port-value′ .port-value .ensures .inside) in
     let u = right-full {room = now (a .room)} w refl (omega (arith, if1′ .if1 .taken, n, ap length e)) in
     (c .refused .ensures ∙ u .answered, u .holds)
@@ -83,10 +83,10 @@ put-options-requires c κs =
     let s = host-value′ .before .before .before .before .before in
     let a = s .args in
     let q = parameters′ .parameters .ensures (now (a .s)) (s .pre .1 .1 .1) in
-    let w = optionsAt (now (a .s)) (hostOf (a .host)) (a .port) (slotOf (a .path)) (slotOf (a .query)) (now (a .address)) (a .destination) in
-    let e = pieces-are _ _ _ _ _ (deltas-of′ .deltas-of .ensures) (hostOf (a .host)) (a .port) (slotOf (a .path)) (slotOf (a .query)) (now (a .address)) (a .destination) (host-value′ .host-value .ensures) (port-value′ .port-value .ensures) (segments′ .segments .ensures) q in
+    let w = optionsAt (now (a .s)) (hostOf (a .host)) (a .port) (slotOf (a .path)) (slotOf (a .query)) (now (a .to-address)) (a .to-port) in
+    let e = pieces-are _ _ _ _ _ (deltas-of′ .deltas-of .ensures) (hostOf (a .host)) (a .port) (slotOf (a .path)) (slotOf (a .query)) (now (a .to-address)) (a .to-port) (host-value′ .host-value .ensures) (port-value′ .port-value .ensures) (segments′ .segments .ensures) q in
     let n = options-length′ .options-length .ensures _ _ (host-value′ .host-value .ensures .inside) (port-value′ .port-value .ensures .inside) in
-    ((stands _ _ _ _ _ (deltas-of′ .deltas-of .ensures) (hostOf (a .host)) (a .port) (slotOf (a .path)) (slotOf (a .query)) (now (a .address)) (a .destination) (host-value′ .host-value .ensures) (port-value′ .port-value .ensures) (segments′ .segments .ensures) q, deltas-small (deltas-of′ .deltas-of .ensures)), ((host-value′ .host-value .ensures .inside, port-value′ .port-value .ensures .inside), omega (arith, if1′ .if1 .left, n)))
+    ((stands _ _ _ _ _ (deltas-of′ .deltas-of .ensures) (hostOf (a .host)) (a .port) (slotOf (a .path)) (slotOf (a .query)) (now (a .to-address)) (a .to-port) (host-value′ .host-value .ensures) (port-value′ .port-value .ensures) (segments′ .segments .ensures) q, deltas-small (deltas-of′ .deltas-of .ensures)), ((host-value′ .host-value .ensures .inside, port-value′ .port-value .ensures .inside), omega (arith, if1′ .if1 .left, n)))
 
 same-length : tie.Need-same-length
 same-length c = search needs
@@ -104,8 +104,8 @@ returns-2 c =
     let s = host-value′ .before .before .before .before .before in
     let a = s .args in
     let q = parameters′ .parameters .ensures (now (a .s)) (s .pre .1 .1 .1) in
-    let w = optionsAt (now (a .s)) (hostOf (a .host)) (a .port) (slotOf (a .path)) (slotOf (a .query)) (now (a .address)) (a .destination) in
-    let e = pieces-are _ _ _ _ _ (deltas-of′ .deltas-of .ensures) (hostOf (a .host)) (a .port) (slotOf (a .path)) (slotOf (a .query)) (now (a .address)) (a .destination) (host-value′ .host-value .ensures) (port-value′ .port-value .ensures) (segments′ .segments .ensures) q in
+    let w = optionsAt (now (a .s)) (hostOf (a .host)) (a .port) (slotOf (a .path)) (slotOf (a .query)) (now (a .to-address)) (a .to-port) in
+    let e = pieces-are _ _ _ _ _ (deltas-of′ .deltas-of .ensures) (hostOf (a .host)) (a .port) (slotOf (a .path)) (slotOf (a .query)) (now (a .to-address)) (a .to-port) (host-value′ .host-value .ensures) (port-value′ .port-value .ensures) (segments′ .segments .ensures) q in
     let n = options-length′ .options-length .ensures _ _ (host-value′ .host-value .ensures .inside) (port-value′ .port-value .ensures .inside) in
     let u = right-done w refl (omega (arith, if1′ .if1 .left, n, ap length e)) (wrote-as e (put-options′ .put-options .ensures)) in
     (u .answered, u .holds)

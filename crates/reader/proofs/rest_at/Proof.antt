@@ -17,8 +17,8 @@ enum-known-k c = search needs
 enum-known-path : tie.Need-enum-known-path
 enum-known-path c = search needs
 
-less-requires : tie.Need-less-requires
-less-requires c κs = search needs
+minus-requires : tie.Need-minus-requires
+minus-requires c κs = search needs
 
 array-at-requires-2 : tie.Need-array-at-requires-2
 array-at-requires-2 c κs = search needs
@@ -29,8 +29,8 @@ enum-known-k-2 c = search needs
 enum-known-query : tie.Need-enum-known-query
 enum-known-query c = search needs
 
-less-requires-2 : tie.Need-less-requires-2
-less-requires-2 c κs = search needs
+minus-requires-2 : tie.Need-minus-requires-2
+minus-requires-2 c κs = search needs
 
 fragment-at-requires : tie.Need-fragment-at-requires
 fragment-at-requires c κs = search needs
@@ -56,7 +56,7 @@ returns-2 c =
     let q = c .before .before .before in
     let l = q .before in
     let p = l .before .before .before .before in
-    bind-refused _ _ _ _ (ap slotIs (sym (c .before .k2 .given .1)) ∙ q .array-at2 .ensures ∙ ap (readArray parameter 1 16 _ _) (l .less .ensures))
+    bind-refused _ _ _ _ (ap slotIs (sym (c .before .k2 .given .1)) ∙ q .array-at2 .ensures ∙ ap (readArray parameter 1 16 _ _) (l .minus .ensures))
     ∙ bind-ok _ _ _ (ap slotIs (sym (l .before .before .path .given .1)) ∙ p .array-at .ensures)
 
 returns-3 : tie.Need-returns-3
@@ -67,8 +67,8 @@ returns-3 c =
     let q = m .before .before .before .before in
     let l = q .before in
     let p = l .before .before .before .before in
-    bind-refused _ _ _ _ (ap slotIs (sym (c .before .k3 .given .1)) ∙ f .fragment-at .ensures ∙ ap (readFragment _ _) (m .less2 .ensures))
-    ∙ bind-ok _ _ _ (ap slotIs (sym (m .before .before .query .given .1)) ∙ q .array-at2 .ensures ∙ ap (readArray parameter 1 16 _ _) (l .less .ensures))
+    bind-refused _ _ _ _ (ap slotIs (sym (c .before .k3 .given .1)) ∙ f .fragment-at .ensures ∙ ap (readFragment _ _) (m .minus2 .ensures))
+    ∙ bind-ok _ _ _ (ap slotIs (sym (m .before .before .query .given .1)) ∙ q .array-at2 .ensures ∙ ap (readArray parameter 1 16 _ _) (l .minus .ensures))
     ∙ bind-ok _ _ _ (ap slotIs (sym (l .before .before .path .given .1)) ∙ p .array-at .ensures)
 
 returns-4 : tie.Need-returns-4
@@ -80,8 +80,8 @@ returns-4 c =
     let l = q .before in
     let p = l .before .before .before .before in
     c .finish .ensures
-    ∙ bind-ok _ _ _ (ap slotIs (sym (c .before .before .fragment .given .1)) ∙ f .fragment-at .ensures ∙ ap (readFragment _ _) (m .less2 .ensures))
-    ∙ bind-ok _ _ _ (ap slotIs (sym (m .before .before .query .given .1)) ∙ q .array-at2 .ensures ∙ ap (readArray parameter 1 16 _ _) (l .less .ensures))
+    ∙ bind-ok _ _ _ (ap slotIs (sym (c .before .before .fragment .given .1)) ∙ f .fragment-at .ensures ∙ ap (readFragment _ _) (m .minus2 .ensures))
+    ∙ bind-ok _ _ _ (ap slotIs (sym (m .before .before .query .given .1)) ∙ q .array-at2 .ensures ∙ ap (readArray parameter 1 16 _ _) (l .minus .ensures))
     ∙ bind-ok _ _ _ (ap slotIs (sym (l .before .before .path .given .1)) ∙ p .array-at .ensures)
 
 pub rest-at-spec : {M : Type 1} → statement M
@@ -91,11 +91,11 @@ rest-at-spec =
     array-at-requires
     enum-known-k
     enum-known-path
-    less-requires
+    minus-requires
     array-at-requires-2
     enum-known-k-2
     enum-known-query
-    less-requires-2
+    minus-requires-2
     fragment-at-requires
     enum-known-k-3
     enum-known-fragment

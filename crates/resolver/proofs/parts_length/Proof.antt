@@ -1,7 +1,7 @@
 -- `resolver::parts_length` meets its contract.
 use native.Mathlib.Omega.{arith}
 use Rattle.resolver.proofs.Items.{head-most-path}
-use Rattle.resolver.proofs.Resolved.{parts-length}
+use Rattle.resolver.proofs.Encoded.{parts-length}
 use borrow.Author.Needs.{needs}
 use Rattle.resolver.proofs.parts_length.Statement.{statement}
 use Rattle.resolver.proofs.parts_length.Tie as tie

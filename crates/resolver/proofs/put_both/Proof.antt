@@ -3,7 +3,7 @@ use native.Mathlib.Omega.{arith}
 use denote.Ref.{now}
 use Rattle.rules.proofs.Tools.{length-part}
 use Rattle.put.proofs.Laws.{wrote-then, wrote-length}
-use Rattle.resolver.specs.Parts.{bothOf}
+use Rattle.resolved_parts.specs.Parts.{bothOf}
 use borrow.Author.Needs.{needs}
 use Rattle.resolver.proofs.put_both.Statement.{statement}
 use Rattle.resolver.proofs.put_both.Tie as tie

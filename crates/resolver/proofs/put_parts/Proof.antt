@@ -4,9 +4,9 @@ use mathlib.Core.Path.{ap}
 use denote.Ref.{now}
 use Rattle.rules.specs.Head.{headBytes, Array}
 use Rattle.put.proofs.Laws.{wrote-then, wrote-as, wrote-length}
-use Rattle.resolver.specs.Parts.{partsOf}
+use Rattle.resolver.specs.Written.{partsOf}
 use Rattle.resolver.proofs.Items.{items-most}
-use Rattle.resolver.proofs.Resolved.{counted, sizes}
+use Rattle.resolver.proofs.Encoded.{counted, sizes}
 use borrow.Author.Needs.{needs}
 use Rattle.resolver.proofs.put_parts.Statement.{statement}
 use Rattle.resolver.proofs.put_parts.Tie as tie

@@ -3,8 +3,8 @@ use native.Mathlib.Omega.{arith}
 use mathlib.Core.Path.{_∙_}
 use denote.Ref.{now}
 use Rattle.outcomes.proofs.Laws.{right-refused, right-full, right-done}
-use Rattle.resolver.specs.Parts.{partsOf}
-use Rattle.resolver.proofs.Resolved.{over-segments, over-bytes, within-both}
+use Rattle.resolver.specs.Written.{partsOf}
+use Rattle.resolver.proofs.Encoded.{over-segments, over-bytes, within-both}
 use borrow.Author.Needs.{needs}
 use Rattle.resolver.proofs.put_result.Statement.{statement}
 use Rattle.resolver.proofs.put_result.Tie as tie

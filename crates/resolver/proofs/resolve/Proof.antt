@@ -11,7 +11,7 @@ use Rattle.rules.proofs.Standing.{read-size}
 use Rattle.rules.proofs.Laid.{laid}
 use Rattle.reader.specs.Code.{answerIs}
 use Rattle.outcomes.proofs.Laws.{right-refused}
-use Rattle.resolver.proofs.Resolved.{parts-inside, parts-small, ruled-parts, base-says, base-refused, reference-refused, read-reference}
+use Rattle.resolver.proofs.Encoded.{parts-inside, parts-small, ruled-parts, base-says, base-refused, reference-refused, read-reference}
 use borrow.Author.Needs.{needs}
 use Rattle.resolver.proofs.resolve.Statement.{statement}
 use Rattle.resolver.proofs.resolve.Tie as tie

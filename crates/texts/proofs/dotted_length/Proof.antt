@@ -7,7 +7,7 @@ use denote.Ref.{now}
 use Rattle.rules.specs.Reader.{contents}
 use Rattle.rules.proofs.Texts.{Items}
 use Rattle.rules.proofs.Walk.{First, first, first-stands, none-left}
-use Rattle.texts.specs.Code.{dotted}
+use Rattle.texts.specs.Code.{dottedLength}
 use Rattle.texts.proofs.Cases.{dotted-next}
 use borrow.Author.Needs.{needs}
 use Rattle.texts.proofs.dotted_length.Statement.{statement}
@@ -18,7 +18,7 @@ use Rattle.cbor.proofs.span_at.Reads as span-at-reads
 
 abbrev Inv-loop : tie.InvT-loop
 Inv-loop s at count here₀ left₀ total₀ here left total =
-    Items s here left × (here ≤ length s) × (at + total ≤ here) × (dotted (contents s at count) ≡ total + dotted (contents s here left))
+    Items s here left × (here ≤ length s) × (at + total ≤ here) × (dottedLength (contents s at count) ≡ total + dottedLength (contents s here left))
 
 abbrev μ-loop : tie.MeasureT-loop
 μ-loop s at count here₀ left₀ total₀ here left total = left
@@ -55,8 +55,8 @@ loop-again c =
     (f .others, omega (arith, f .inside), omega (arith, f .after), omega (arith, dotted-next _ _ _ _ _ f))
 
 returns : tie.Need-returns Inv-loop μ-loop
-unfolding dotted
-returns c = let l = c .before .loop in omega (arith, ap dotted (none-left (now (c .before .before .before .args .s)) (l .here) (l .left) (c .loop-test .left)))
+unfolding dottedLength
+returns c = let l = c .before .loop in omega (arith, ap dottedLength (none-left (now (c .before .before .before .args .s)) (l .here) (l .left) (c .loop-test .left)))
 
 pub dotted-length-spec : {M : Type 1} → statement M
 dotted-length-spec =

@@ -19,8 +19,8 @@ enum-known-fragment c = search needs
 bare-bits-requires : tie.Need-bare-bits-requires
 bare-bits-requires c κs = search needs
 
-hex-digits-requires : tie.Need-hex-digits-requires
-hex-digits-requires c κs = search needs
+upper-hex-digits-requires : tie.Need-upper-hex-digits-requires
+upper-hex-digits-requires c κs = search needs
 
 put-byte-requires : tie.Need-put-byte-requires
 put-byte-requires c κs = omega (arith, c .before .before .before .before .before .before .before .before .pre .1, ap length (fragment-set (now (c .before .before .before .before .before .before .before .before .args .s)) (ap slotOf (c .before .before .before .before .fragment .given .1))))
@@ -28,7 +28,7 @@ put-byte-requires c κs = omega (arith, c .before .before .before .before .befor
 put-escaped-requires : tie.Need-put-escaped-requires
 put-escaped-requires c κs =
     let e = ap slotOf (c .before .before .before .before .before .before .before .before .before .before .fragment .given .1) in
-    ((c .before .before .before .before .before .before .before .before .bare-bits .ensures, c .before .before .before .before .before .before .before .hex-digits .ensures), (rw e at (c .before .before .before .before .before .before .before .before .before .before .before .before .before .before .pre .0), omega (arith, c .before .before .before .before .before .before .before .before .before .before .before .before .before .before .pre .1, c .before .before .before .before .before .put-byte .ensures .place, wrote-length (c .before .before .before .before .before .put-byte .ensures), ap length (fragment-set (now (c .before .before .before .before .before .before .before .before .before .before .before .before .before .before .args .s)) e))))
+    ((c .before .before .before .before .before .before .before .before .bare-bits .ensures, c .before .before .before .before .before .before .before .upper-hex-digits .ensures), (rw e at (c .before .before .before .before .before .before .before .before .before .before .before .before .before .before .pre .0), omega (arith, c .before .before .before .before .before .before .before .before .before .before .before .before .before .before .pre .1, c .before .before .before .before .before .put-byte .ensures .place, wrote-length (c .before .before .before .before .before .put-byte .ensures), ap length (fragment-set (now (c .before .before .before .before .before .before .before .before .before .before .before .before .before .before .args .s)) e))))
 
 returns : tie.Need-returns
 returns c = wrote-as (fragment-unset _ (ap slotOf (c .enum-told .given .1))) wrote-none
@@ -46,7 +46,7 @@ put-fragment-spec =
     enum-told
     enum-known-fragment
     bare-bits-requires
-    hex-digits-requires
+    upper-hex-digits-requires
     put-byte-requires
     put-escaped-requires
     returns

@@ -14,20 +14,20 @@ use Rattle.views.proofs.authority.Statement.{statement}
 use Rattle.views.proofs.authority.Tie as tie
 use Rattle.views.proofs.authority.Reads as reads
 use Rattle.views.proofs.authority.Lts as lts
-use Rattle.views.proofs.authority_at.Reads as authority-at-reads
+use Rattle.views.proofs.chosen_authority.Reads as chosen-authority-reads
 
 -- the part lies inside
-inside : (c : lts.After-authority-at (authority-at-reads.Asked, authority-at-reads.Learnt) reads.Pre reads.Post) (p : Piece) → c .authority-at .result ≡ p
+inside : (c : lts.After-chosen-authority (chosen-authority-reads.Asked, chosen-authority-reads.Learnt) reads.Pre reads.Post) (p : Piece) → c .chosen-authority .result ≡ p
     → Ok (PieceStands (now (c .before .before .before .args .reference)) (now (c .before .before .before .args .base))) (pieceIs p)
 inside c p e =
     let k = c .before in
     let ref = now (k .before .before .args .reference) in
     let base = now (k .before .before .args .base) in
-    subst (Ok (PieceStands ref base)) (sym (c .authority-at .ensures) ∙ ap pieceIs e)
+    subst (Ok (PieceStands ref base)) (sym (c .chosen-authority .ensures) ∙ ap pieceIs e)
     (authority-inside limits ref base (octets-of ref (λ i. omega (arith, k .before .shared-slice-known .given i))) (octets-of base (λ i. omega (arith, k .shared-slice-known2 .given i))))
 
-authority-at-requires : tie.Need-authority-at-requires
-authority-at-requires c κs = search needs
+chosen-authority-requires : tie.Need-chosen-authority-requires
+chosen-authority-requires c κs = search needs
 
 enum-known-span : tie.Need-enum-known-span
 enum-known-span c = search needs
@@ -70,23 +70,23 @@ returns c =
     let v = c .before .before .before in
     let a = v .before .before in
     let span = v .span .given .0 .0 in
-    simp (sym (a .authority-at .ensures) ∙ ap pieceIs (v .span .given .1)) (refl, sym (part-whole (now (a .before .before .before .args .reference)) (span .start) (span .length)))
+    simp (sym (a .chosen-authority .ensures) ∙ ap pieceIs (v .span .given .1)) (refl, sym (part-whole (now (a .before .before .before .args .reference)) (span .start) (span .length)))
 
 returns-2 : tie.Need-returns-2
 returns-2 c =
     let v = c .before .before .before in
     let a = v .before .before in
     let span = v .span2 .given .0 .0 in
-    simp (sym (a .authority-at .ensures) ∙ ap pieceIs (v .span2 .given .1)) (refl, sym (part-whole (now (a .before .before .before .args .base)) (span .start) (span .length)))
+    simp (sym (a .chosen-authority .ensures) ∙ ap pieceIs (v .span2 .given .1)) (refl, sym (part-whole (now (a .before .before .before .args .base)) (span .start) (span .length)))
 
 returns-3 : tie.Need-returns-3
-returns-3 c = simp (sym (c .before .before .before .authority-at .ensures) ∙ ap pieceIs (c .before .enum-told .given .1), zero-add) (refl, refl)
+returns-3 c = simp (sym (c .before .before .before .chosen-authority .ensures) ∙ ap pieceIs (c .before .enum-told .given .1), zero-add) (refl, refl)
 
 pub authority-spec : {M : Type 1} → statement M
 authority-spec =
     tie.close
     (tie.spec
-    authority-at-requires
+    chosen-authority-requires
     enum-known-span
     add-end
     sub-result

@@ -15,18 +15,18 @@ use Rattle.views.proofs.segment.Statement.{statement}
 use Rattle.views.proofs.segment.Tie as tie
 use Rattle.views.proofs.segment.Reads as reads
 use Rattle.views.proofs.segment.Lts as lts
-use Rattle.views.proofs.segment_at.Reads as segment-at-reads
+use Rattle.views.proofs.nth_segment.Reads as nth-segment-reads
 
 -- the part lies inside
-inside : (c : lts.After-span (segment-at-reads.Asked, segment-at-reads.Learnt) reads.Pre reads.Post)
+inside : (c : lts.After-span (nth-segment-reads.Asked, nth-segment-reads.Learnt) reads.Pre reads.Post)
     → c .span .given .0 .0 .start + c .span .given .0 .0 .length ≤ length (now (c .before .before .before .before .args .s))
 inside c =
     let a = c .before .before in
     let s = now (a .before .before .args .s) in
-    ok-at (segment-inside limits s _ (octets-of s (λ i. omega (arith, a .before .shared-slice-known .given i)))) (sym (a .segment-at .ensures) ∙ ap viewIs (c .span .given .1))
+    ok-at (segment-inside limits s _ (octets-of s (λ i. omega (arith, a .before .shared-slice-known .given i)))) (sym (a .nth-segment .ensures) ∙ ap viewIs (c .span .given .1))
 
-segment-at-requires : tie.Need-segment-at-requires
-segment-at-requires c κs = search needs
+nth-segment-requires : tie.Need-nth-segment-requires
+nth-segment-requires c κs = search needs
 
 enum-known-span : tie.Need-enum-known-span
 enum-known-span c = search needs
@@ -54,16 +54,16 @@ returns c =
     let v = c .before .before .before in
     let a = v .before .before in
     let span = v .span .given .0 .0 in
-    simp (sym (a .segment-at .ensures) ∙ ap viewIs (v .span .given .1)) (refl, sym (part-whole (now (a .before .before .args .s)) (span .start) (span .length)))
+    simp (sym (a .nth-segment .ensures) ∙ ap viewIs (v .span .given .1)) (refl, sym (part-whole (now (a .before .before .args .s)) (span .start) (span .length)))
 
 returns-2 : tie.Need-returns-2
-returns-2 c = simp (sym (c .before .before .before .segment-at .ensures) ∙ ap viewIs (c .before .enum-told .given .1), zero-add) (refl, refl)
+returns-2 c = simp (sym (c .before .before .before .nth-segment .ensures) ∙ ap viewIs (c .before .enum-told .given .1), zero-add) (refl, refl)
 
 pub segment-spec : {M : Type 1} → statement M
 segment-spec =
     tie.close
     (tie.spec
-    segment-at-requires
+    nth-segment-requires
     enum-known-span
     add-end
     sub-result

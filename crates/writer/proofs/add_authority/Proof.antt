@@ -1,8 +1,9 @@
 -- `writer::add_authority` meets its contract.
 use mathlib.Core.Path.{refl, sym, ap}
 use Rattle.rules.specs.Bytes.{concat}
+use Rattle.rules.proofs.Standing.{none-lie}
 use Rattle.writer.proofs.Laws.{added-none, added-as}
-use Rattle.writer.proofs.Items.{none-lie, one-lies, one-lying, one-item, no-authority, null-authority}
+use Rattle.writer.proofs.Items.{one-lies, one-lying, one-item, no-authority, null-authority}
 use Rattle.writer.specs.Items.{authorityItems}
 use borrow.Author.Needs.{needs}
 use Rattle.writer.proofs.add_authority.Statement.{statement}

@@ -2,9 +2,10 @@
 use mathlib.Core.Path.{refl}
 use Rattle.rules.specs.Bytes.{concat}
 use Rattle.rules.specs.Encode.{textItem}
+use Rattle.rules.proofs.Standing.{none-lie}
 use Rattle.writer.specs.Items.{stringItem, fragmentItems}
 use Rattle.writer.proofs.Laws.{added-none, added-as}
-use Rattle.writer.proofs.Items.{none-lie, one-lies, one-lying, one-item}
+use Rattle.writer.proofs.Items.{one-lies, one-lying, one-item}
 use borrow.Author.Needs.{needs}
 use Rattle.writer.proofs.add_fragment.Statement.{statement}
 use Rattle.writer.proofs.add_fragment.Tie as tie

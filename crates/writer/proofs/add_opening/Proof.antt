@@ -4,9 +4,10 @@ use denote.Ref.{now}
 use Rattle.rules.specs.Bytes.{bigEndian, concat}
 use Rattle.rules.specs.Head.{headBytes, majorOf, shortest, width}
 use Rattle.components.specs.Content.{schemeOf, authorityOf}
+use Rattle.rules.proofs.Standing.{none-lie}
 use Rattle.writer.specs.Items.{openingItems}
 use Rattle.writer.proofs.Laws.{added-as, added-then}
-use Rattle.writer.proofs.Items.{none-lie, opening-may, opening-each}
+use Rattle.writer.proofs.Items.{opening-may, opening-each}
 use borrow.Author.Needs.{needs}
 use Rattle.writer.proofs.add_opening.Statement.{statement}
 use Rattle.writer.proofs.add_opening.Tie as tie

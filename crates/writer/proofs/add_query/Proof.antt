@@ -2,8 +2,9 @@
 use native.Mathlib.Omega.{arith}
 use mathlib.Core.Path.{refl}
 use Rattle.rules.specs.Encode.{orNull}
+use Rattle.rules.proofs.Standing.{none-lie}
 use Rattle.writer.proofs.Laws.{added-over, added-as, added-then}
-use Rattle.writer.proofs.Items.{none-lie, few-most, few, texts-said}
+use Rattle.writer.proofs.Items.{few-most, few, texts-said}
 use borrow.Author.Needs.{needs}
 use Rattle.writer.proofs.add_query.Statement.{statement}
 use Rattle.writer.proofs.add_query.Tie as tie

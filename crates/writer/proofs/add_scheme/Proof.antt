@@ -1,9 +1,10 @@
 -- `writer::add_scheme` meets its contract.
 use mathlib.Core.Path.{refl}
 use Rattle.rules.specs.Encode.{orNull, schemeItem, textItem}
+use Rattle.rules.proofs.Standing.{none-lie}
 use Rattle.writer.specs.Items.{stringItem}
 use Rattle.writer.proofs.Laws.{added-as}
-use Rattle.writer.proofs.Items.{none-lie, one-lies, one-lying}
+use Rattle.writer.proofs.Items.{one-lies, one-lying}
 use borrow.Author.Needs.{needs}
 use Rattle.writer.proofs.add_scheme.Statement.{statement}
 use Rattle.writer.proofs.add_scheme.Tie as tie

@@ -1,0 +1,2 @@
+-- The result of resolving, as parts of the two inputs.
+pub mod Parts

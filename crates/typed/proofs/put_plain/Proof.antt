@@ -1,0 +1,70 @@
+-- `typed::put_plain` meets its contract: what is left to write is what is left of the word.
+use Prim.Native.Nat.{_+_, _-_, _≤_}
+use native.Mathlib.Omega.{arith}
+use lib.ListN.{length, drop, getD}
+use denote.Ref.{now}
+use Rattle.put.proofs.Laws.{Left, Next, left-all, left-done, next-room, next-wrote}
+use Rattle.typed.specs.Plain.{plainByte, plain}
+use Rattle.typed.proofs.Laws.{plain-next, plain-end, plain-length}
+use borrow.Author.Needs.{needs}
+use Rattle.typed.proofs.put_plain.Statement.{statement}
+use Rattle.typed.proofs.put_plain.Tie as tie
+
+abbrev Inv-loop : tie.InvT-loop
+Inv-loop room₀ word i₀ o₀ room i o = (i ≤ length word) × Left room o (plain (drop i word)) room₀ 0 (plain word)
+
+abbrev μ-loop : tie.MeasureT-loop
+μ-loop room₀ word i₀ o₀ room i o = length word - i
+
+loop-holds : tie.Need-loop-holds Inv-loop μ-loop
+loop-holds c = (omega arith, left-all)
+
+-- the byte at i, and what is left after it
+turn : (t : tie.In-loop Inv-loop μ-loop) → let l = t .before .loop in let a = t .before .before .before .before .args in let w = now (a .word) in
+    Next (l .room) (l .o) (plainByte (getD w (l .i) 0)) (plain (drop (l .i + 1) w)) (now (a .room)) 0 (plain w)
+turn t =
+    let l = t .before .loop in
+    record { left = rw (plain-next (now (t .before .before .before .before .args .word)) (l .i) (omega arith)) at (l .inv .1) }
+
+shared-slice-read-put-plain-byte : tie.Need-shared-slice-read-put-plain-byte Inv-loop μ-loop
+shared-slice-read-put-plain-byte c = search needs
+
+put-plain-byte-requires : tie.Need-put-plain-byte-requires Inv-loop μ-loop
+put-plain-byte-requires c κs =
+    let t = c .before .before in
+    let s = t .before .before .before .before in
+    next-room (turn t) (omega (arith, plain-length (now (s .args .word)), s .pre))
+
+add-i : tie.Need-add-i Inv-loop μ-loop
+add-i c = search needs
+
+loop-less : tie.Need-loop-less Inv-loop μ-loop
+loop-less c = search needs
+
+loop-again : tie.Need-loop-again Inv-loop μ-loop
+loop-again c =
+    let p = c .before .before in
+    (omega arith, next-wrote (turn (p .before .before .before)) (p .put-plain-byte .ensures))
+
+same-length : tie.Need-same-length Inv-loop μ-loop
+same-length c = search needs
+
+returns : tie.Need-returns Inv-loop μ-loop
+returns c =
+    let l = c .before .loop in
+    left-done (rw (plain-end (now (c .before .before .before .before .args .word)) (l .i) (omega arith)) at (l .inv .1))
+
+pub put-plain-spec : {M : Type 1} → statement M
+put-plain-spec =
+    tie.close
+    (tie.spec
+    Inv-loop
+    μ-loop
+    loop-holds
+    shared-slice-read-put-plain-byte
+    put-plain-byte-requires
+    add-i
+    loop-less
+    loop-again
+    same-length
+    returns)
