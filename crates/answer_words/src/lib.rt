@@ -58,15 +58,6 @@ const NOWHERE: Span = Span {
     length: 1,
 };
 
-// Where the i-th text of a group stands; nowhere beyond its array.
-fn span_of(c: Components, group: Group, i: usize) -> Span {
-    match group {
-        Group::Labels => if i < 8 { c.labels[i] } else { NOWHERE },
-        Group::Segments => if i < 32 { c.segments[i] } else { NOWHERE },
-        Group::Parameters => if i < 16 { c.parameters[i] } else { NOWHERE },
-    }
-}
-
 // The texts of a group, at most 33 of them, so that a count over its array shows.
 fn add_texts(
     out: &mut Output,
@@ -83,7 +74,12 @@ fn add_texts(
             return at;
         }
         let named = add_name(out, at, group);
-        at = add_span(out, named, s, span_of(c, group, i));
+        let span = match group {
+            Group::Labels => if i < 8 { c.labels[i] } else { NOWHERE },
+            Group::Segments => if i < 32 { c.segments[i] } else { NOWHERE },
+            Group::Parameters => if i < 16 { c.parameters[i] } else { NOWHERE },
+        };
+        at = add_span(out, named, s, span);
         i += 1;
     }
     at

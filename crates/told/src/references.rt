@@ -68,19 +68,11 @@ fn say_count(group: Group, count: u64) {
     say(b"s\n");
 }
 
+// The empty span at 0.
 const NOWHERE: Span = Span {
     start: 0,
     length: 0,
 };
-
-// Where the i-th text of a group stands.
-fn span_of(c: Components, group: Group, i: usize) -> Span {
-    match group {
-        Group::Labels => if i < 8 { c.labels[i] } else { NOWHERE },
-        Group::Segments => if i < 32 { c.segments[i] } else { NOWHERE },
-        Group::Parameters => if i < 16 { c.parameters[i] } else { NOWHERE },
-    }
-}
 
 // One text of a group, counted from 0.
 fn say_numbered(s: &[u8], i: usize, span: Span) {
@@ -98,7 +90,12 @@ fn say_texts(s: &[u8], c: Components, group: Group, count: usize) {
     say_count(group, count as u64);
     let mut i = 0;
     while i < count {
-        say_numbered(s, i, span_of(c, group, i));
+        let span = match group {
+            Group::Labels => if i < 8 { c.labels[i] } else { NOWHERE },
+            Group::Segments => if i < 32 { c.segments[i] } else { NOWHERE },
+            Group::Parameters => if i < 16 { c.parameters[i] } else { NOWHERE },
+        };
+        say_numbered(s, i, span);
         i += 1;
     }
 }
@@ -108,12 +105,12 @@ fn say_texts(s: &[u8], c: Components, group: Group, count: usize) {
 // The name of a scheme's number (RULES 1.6).
 fn say_scheme_name(number: u64) {
     match number {
-        0 => say(b"coap"),
-        1 => say(b"coaps"),
-        6 => say(b"coap+tcp"),
-        7 => say(b"coaps+tcp"),
-        8 => say(b"coap+ws"),
-        9 => say(b"coaps+ws"),
+        0 => say(&texts::COAP),
+        1 => say(&texts::COAPS),
+        6 => say(&texts::COAP_TCP),
+        7 => say(&texts::COAPS_TCP),
+        8 => say(&texts::COAP_WS),
+        9 => say(&texts::COAPS_WS),
         _ => say(b"unknown"),
     }
 }

@@ -79,8 +79,8 @@ fn refuse(what: &[u8], number: u8) {
 
 // ---- show
 
-// The URI text of an absolute CRI, after `before`; nothing where it has none.
-fn say_uri_text(before: &[u8], s: &[u8]) {
+// The URI text of an absolute CRI, after `before`; nothing where it has none. The result is the number of the call.
+fn say_uri_text(before: &[u8], s: &[u8]) -> u8 {
     let mut room = [0u8; 4096];
     let done = cri::uri_text(s, &mut room);
     if done.number == 0 {
@@ -89,6 +89,7 @@ fn say_uri_text(before: &[u8], s: &[u8]) {
         say(&room[..n]);
         say(b"\n");
     }
+    done.number
 }
 
 // show HEX: the components, and the URI text; or why it is refused, and where.
@@ -107,12 +108,10 @@ fn show() {
 // ---- text
 
 fn say_text(s: &[u8]) {
-    let mut room = [0u8; 4096];
-    let done = cri::uri_text(s, &mut room);
-    if done.number != 0 {
-        return refuse(b"", done.number);
+    let number = say_uri_text(b"", s);
+    if number != 0 {
+        refuse(b"", number);
     }
-    say_uri_text(b"", s);
 }
 
 // text HEX: the URI text.

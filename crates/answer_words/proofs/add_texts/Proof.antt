@@ -5,10 +5,10 @@ use Rattle.answer_words.proofs.add_texts.Statement.{statement}
 use Rattle.answer_words.proofs.add_texts.Tie as tie
 
 abbrev Inv-loop : tie.InvT-loop
-Inv-loop out₀ used s c group count at₀ i₀ out at i = i ≤ count
+Inv-loop out₀ used s group count c at₀ i₀ out at i = i ≤ count
 
 abbrev μ-loop : tie.MeasureT-loop
-μ-loop out₀ used s c group count at₀ i₀ out at i = count - i
+μ-loop out₀ used s group count c at₀ i₀ out at i = count - i
 
 loop-holds : tie.Need-loop-holds Inv-loop μ-loop
 loop-holds c = search needs
@@ -19,8 +19,32 @@ returns c = search needs
 add-name-requires : tie.Need-add-name-requires Inv-loop μ-loop
 add-name-requires c κs = search needs
 
-span-of-requires : tie.Need-span-of-requires Inv-loop μ-loop
-span-of-requires c κs = search needs
+enum-told : tie.Need-enum-told Inv-loop μ-loop
+enum-told c = search needs
+
+mul-span : tie.Need-mul-span Inv-loop μ-loop
+mul-span c = search needs
+
+element-copy-out-span : tie.Need-element-copy-out-span Inv-loop μ-loop
+element-copy-out-span c = search needs
+
+enum-told-2 : tie.Need-enum-told-2 Inv-loop μ-loop
+enum-told-2 c = search needs
+
+mul-span-2 : tie.Need-mul-span-2 Inv-loop μ-loop
+mul-span-2 c = search needs
+
+element-copy-out-span-2 : tie.Need-element-copy-out-span-2 Inv-loop μ-loop
+element-copy-out-span-2 c = search needs
+
+enum-told-3 : tie.Need-enum-told-3 Inv-loop μ-loop
+enum-told-3 c = search needs
+
+mul-span-3 : tie.Need-mul-span-3 Inv-loop μ-loop
+mul-span-3 c = search needs
+
+element-copy-out-span-3 : tie.Need-element-copy-out-span-3 Inv-loop μ-loop
+element-copy-out-span-3 c = search needs
 
 add-span-requires : tie.Need-add-span-requires Inv-loop μ-loop
 add-span-requires c κs = search needs
@@ -46,7 +70,15 @@ add-texts-spec =
     loop-holds
     returns
     add-name-requires
-    span-of-requires
+    enum-told
+    mul-span
+    element-copy-out-span
+    enum-told-2
+    mul-span-2
+    element-copy-out-span-2
+    enum-told-3
+    mul-span-3
+    element-copy-out-span-3
     add-span-requires
     add-i
     loop-less

@@ -5,10 +5,10 @@ use Rattle.told.proofs.references.say_texts.Statement.{statement}
 use Rattle.told.proofs.references.say_texts.Tie as tie
 
 abbrev Inv-loop : tie.InvT-loop
-Inv-loop s c group count i₀ i = i ≤ count
+Inv-loop s group count c i₀ i = i ≤ count
 
 abbrev μ-loop : tie.MeasureT-loop
-μ-loop s c group count i₀ i = count - i
+μ-loop s group count c i₀ i = count - i
 
 say-count-requires : tie.Need-say-count-requires Inv-loop μ-loop
 say-count-requires c κs = search needs
@@ -16,8 +16,32 @@ say-count-requires c κs = search needs
 loop-holds : tie.Need-loop-holds Inv-loop μ-loop
 loop-holds c = search needs
 
-span-of-requires : tie.Need-span-of-requires Inv-loop μ-loop
-span-of-requires c κs = search needs
+enum-told : tie.Need-enum-told Inv-loop μ-loop
+enum-told c = search needs
+
+mul-span : tie.Need-mul-span Inv-loop μ-loop
+mul-span c = search needs
+
+element-copy-out-span : tie.Need-element-copy-out-span Inv-loop μ-loop
+element-copy-out-span c = search needs
+
+enum-told-2 : tie.Need-enum-told-2 Inv-loop μ-loop
+enum-told-2 c = search needs
+
+mul-span-2 : tie.Need-mul-span-2 Inv-loop μ-loop
+mul-span-2 c = search needs
+
+element-copy-out-span-2 : tie.Need-element-copy-out-span-2 Inv-loop μ-loop
+element-copy-out-span-2 c = search needs
+
+enum-told-3 : tie.Need-enum-told-3 Inv-loop μ-loop
+enum-told-3 c = search needs
+
+mul-span-3 : tie.Need-mul-span-3 Inv-loop μ-loop
+mul-span-3 c = search needs
+
+element-copy-out-span-3 : tie.Need-element-copy-out-span-3 Inv-loop μ-loop
+element-copy-out-span-3 c = search needs
 
 say-numbered-requires : tie.Need-say-numbered-requires Inv-loop μ-loop
 say-numbered-requires c κs = search needs
@@ -42,7 +66,15 @@ say-texts-spec =
     μ-loop
     say-count-requires
     loop-holds
-    span-of-requires
+    enum-told
+    mul-span
+    element-copy-out-span
+    enum-told-2
+    mul-span-2
+    element-copy-out-span-2
+    enum-told-3
+    mul-span-3
+    element-copy-out-span-3
     say-numbered-requires
     add-i
     loop-less
