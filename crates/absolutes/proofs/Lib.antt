@@ -1,2 +1,2 @@
 -- The laws of absolute references that callers use.
-pub mod Openings
+pub mod AbsoluteOpenings

@@ -1,8 +1,9 @@
 // Absolute references: scheme and authority are both there.
 ghost use mathlib.Core.Path.{_≡_};
 ghost use Rattle.rules.specs.Model.{limits};
-ghost use Rattle.reader.specs.Code.{openingOf, answerIs};
+ghost use Rattle.reader.specs.Answers.{openingOf, answerIs};
 ghost use Rattle.absolutes.specs.Bases.{isAbsolute, readBase};
+use numbers::BASE;
 use reader::Answer;
 use reader::OpeningAt;
 use reader::SchemeAt;
@@ -17,7 +18,7 @@ pub fn is_absolute(opening: OpeningAt) -> bool
         OpeningAt::Full(scheme, _) => match scheme {
             SchemeAt::Unset => false,
             SchemeAt::Number(_) => true,
-            SchemeAt::Name(_, _) => true,
+            SchemeAt::Name { .. } => true,
         },
     }
 }
@@ -27,13 +28,13 @@ pub fn read_base(s: &[u8]) -> Answer
     ensures { λ r. ⌜ answerIs r ≡ readBase limits (now (s .entry)) ⌝ }
 {
     match reader::read(s) {
-        Answer::Refused(_, place) => Answer::Refused(8, place),
+        Answer::Refused(_, place) => Answer::Refused(BASE, place),
         Answer::Is(found) => {
             let opening = found.opening;
             if is_absolute(opening) {
                 Answer::Is(found)
             } else {
-                Answer::Refused(8, 0)
+                Answer::Refused(BASE, 0)
             }
         }
     }

@@ -10,8 +10,10 @@ ghost use Rattle.rules.specs.Head.{Text, is};
 ghost use Rattle.rules.specs.Text.{escape};
 ghost use Rattle.rules.specs.Address.{ipv6Text};
 ghost use Rattle.put.specs.Wrote.{Wrote};
-ghost use Rattle.escape.specs.Escape.{classIs};
-ghost use Rattle.bench.specs.Code.{classOf, textOrNumber, afterContent, afterItem, items, answer, stepIs};
+ghost use Rattle.uri_escape.specs.Escape.{classIs};
+ghost use Rattle.bench.specs.Answers.{classOf, textOrNumber, afterContent, afterItem, items, answer, stepIs};
+use numbers::CUT;
+use numbers::FORM;
 
 // Whether the range lies in the slice, and is UTF-8.
 #[no_mangle]
@@ -45,7 +47,7 @@ fn after_content(s: &[u8], next: usize, n: u64) -> Step
 {
     let left = s.len() - next;
     if (left as u64) < n {
-        return Step::Refused(1);
+        return Step::Refused(CUT);
     }
     Step::Next(next + n as usize)
 }
@@ -64,9 +66,9 @@ fn after_text(s: &[u8], at: usize) -> Step
         null: false,
     };
     match cbor::item_at(s, at, allowed) {
-        cbor::Item::Text(n, next) => after_content(s, next, n),
+        cbor::Item::Text { length: n, next } => after_content(s, next, n),
         cbor::Item::Refused(k) => Step::Refused(k),
-        _ => Step::Refused(2),
+        _ => Step::Refused(FORM),
     }
 }
 
@@ -84,14 +86,14 @@ fn after_label(s: &[u8], at: usize) -> Step
         null: false,
     };
     match cbor::item_at(s, at, allowed) {
-        cbor::Item::Text(n, next) => after_content(s, next, n),
-        cbor::Item::Number(_, next) => Step::Next(next),
+        cbor::Item::Text { length: n, next } => after_content(s, next, n),
+        cbor::Item::Number { next, .. } => Step::Next(next),
         cbor::Item::Refused(k) => Step::Refused(k),
-        _ => Step::Refused(2),
+        _ => Step::Refused(FORM),
     }
 }
 
-// So many texts one after the other.
+// `count` texts one after the other.
 #[no_mangle]
 pub extern "C" fn bench_texts(s: &[u8], count: usize) -> Answer
     ensures { λ r. ⌜ r ≡ answer (items (is Text) (now (s .entry)) 0 count) ⌝ }
@@ -116,7 +118,7 @@ pub extern "C" fn bench_texts(s: &[u8], count: usize) -> Answer
     }
 }
 
-// So many texts and numbers one after the other.
+// `count` texts and numbers one after the other.
 #[no_mangle]
 pub extern "C" fn bench_labels(s: &[u8], count: usize) -> Answer
     ensures { λ r. ⌜ r ≡ answer (items textOrNumber (now (s .entry)) 0 count) ⌝ }
@@ -141,14 +143,14 @@ pub extern "C" fn bench_labels(s: &[u8], count: usize) -> Answer
     }
 }
 
-fn class_of(k: u8) -> escape::Class
+fn class_of(k: u8) -> uri_escape::Class
     ensures { λ r. ⌜ classIs r ≡ classOf k ⌝ }
 {
     match k {
-        0 => escape::Class::Label,
-        1 => escape::Class::Segment,
-        2 => escape::Class::Parameter,
-        _ => escape::Class::Fragment,
+        0 => uri_escape::Class::Label,
+        1 => uri_escape::Class::Segment,
+        2 => uri_escape::Class::Parameter,
+        _ => uri_escape::Class::Fragment,
     }
 }
 
@@ -159,12 +161,12 @@ pub extern "C" fn bench_put_escaped(room: &mut [u8], src: &[u8], class: u8) -> u
     ensures { λ r. ⌜ Wrote (now (room .entry)) 0 (escape (classOf class) (now (src .entry))) (now (room .exit)) r ⌝ }
 {
     let k = class_of(class);
-    let bits = escape::bare_bits(k);
-    if room.len() < escape::escaped_length(src, 0, src.len(), k, &bits) {
+    let bits = uri_escape::bare_bits(k);
+    if room.len() < uri_escape::escaped_length(src, 0, src.len(), k, &bits) {
         return 0;
     }
-    let digits = escape::upper_hex_digits();
-    escape::put_escaped(room, 0, src, 0, src.len(), k, &bits, &digits)
+    let digits = uri_escape::upper_hex_digits();
+    uri_escape::put_escaped(room, 0, src, 0, src.len(), k, &bits, &digits)
 }
 
 // The IPv6 address in the first 16 bytes, into a room of 49.

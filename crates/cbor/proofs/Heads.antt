@@ -10,14 +10,14 @@ use lib.Dec.{ltb, lit<}
 use borrow.Author.Tests.{lt-ltb, le-ltb, le-leb, lt-leb, eq-eqb, ne-eqb}
 use Rattle.rules.specs.Bytes.{Bytes, Octets, part, numberFrom}
 use Rattle.rules.specs.Result.{Res, refused, CUT, FORM, HEAD}
-use Rattle.rules.specs.Head.{Kind, Number, Negative, ByteString, Text, Array, True, Null, Other, Head, width, shortest, valueFrom, kindAt, infoAt, widthAt, valueAt, headAt, readHead}
+use Rattle.rules.specs.Head.{Kind, Number, Negative, ByteString, Text, Array, True, Null, Other, Head, width, shortest, valueFrom, kindAt, infoAt, widthAt, valueAt, headAt, readHead, Fits}
 use Rattle.rules.specs.Reader.{spanAt}
+use Rattle.rules.specs.Standing.{ItemStands}
 use Rattle.rules.proofs.Tools.{tests, cond-split, cond-yes, cond-no, length-part, part-cons, octets-part, never}
 use Rattle.rules.proofs.Steps.{need-yes, need-no, ok-at}
-use Rattle.rules.proofs.Heads.{Lead, lead, Fits, Stands, head-ok, small-value}
-use Rattle.rules.proofs.Texts.{ItemStands}
+use Rattle.rules.proofs.Heads.{Lead, lead, Stands, head-ok, small-value}
 use Rattle.cbor.specs.Heads.{accepted, spanIs, leastOf, ifShortest, readArgument}
-use Rattle.cbor.proofs.Numbers.{number-below}
+use Rattle.cbor.proofs.BigEndian.{number-below}
 
 -- ---- the shortest head
 

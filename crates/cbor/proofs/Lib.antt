@@ -1,3 +1,3 @@
 -- The laws of heads that callers use, and the laws that the functions' proofs cite.
-pub mod Numbers
+pub mod BigEndian
 pub mod Heads

@@ -3,11 +3,13 @@ ghost use mathlib.Core.Path.{_≡_};
 ghost use Prim.Native.Nat.{ℕ, _+_, _<_, _≤_};
 ghost use lib.ListN.{length};
 ghost use Rattle.rules.specs.Bytes.{part, numberFrom};
-ghost use Rattle.rules.specs.Head.{Kind as Kind·rules, kindOf, width, readHead};
+ghost use Rattle.rules.specs.Head.{Kind as Kind·rules, kindOf, width, readHead, Fits};
 ghost use Rattle.rules.specs.Reader.{spanAt};
-ghost use Rattle.rules.proofs.Heads.{Fits};
-ghost use Rattle.rules.proofs.Texts.{ItemStands};
+ghost use Rattle.rules.specs.Standing.{ItemStands};
 ghost use Rattle.cbor.specs.Heads.{kindIs, allows, itemIs, spanIs, accepted, argumentIs, leastOf, readArgument};
+use numbers::CUT;
+use numbers::FORM;
+use numbers::HEAD;
 
 // What an item is, by its first byte.
 pub enum Kind {
@@ -35,14 +37,14 @@ pub struct Kinds {
 // An item's head and the position after it; or a refusal's number.
 pub enum Item {
     // The value.
-    Number(u64, usize),
+    Number { value: u64, next: usize },
     // n of the number -1 - n.
-    Negative(u64, usize),
+    Negative { value: u64, next: usize },
     // The length of the content.
-    ByteString(u64, usize),
-    Text(u64, usize),
+    ByteString { length: u64, next: usize },
+    Text { length: u64, next: usize },
     // How many items the array has.
-    Array(u64, usize),
+    Array { count: u64, next: usize },
     True(usize),
     Null(usize),
     Refused(u8),
@@ -50,7 +52,7 @@ pub enum Item {
 
 // A head's number and the position after the head; or a refusal's number.
 enum Argument {
-    Is(u64, usize),
+    Is { value: u64, next: usize },
     Refused(u8),
 }
 
@@ -145,13 +147,16 @@ fn long_at(s: &[u8], at: usize, info: u8) -> Argument
     let from = at + 1;
     let w = width_of(info);
     if s.len() - from < w {
-        return Argument::Refused(1);
+        return Argument::Refused(CUT);
     }
     let v = number_at(s, from, w);
     if v < least_of(info) {
-        return Argument::Refused(3);
+        return Argument::Refused(HEAD);
     }
-    Argument::Is(v, from + w)
+    Argument::Is {
+        value: v,
+        next: from + w,
+    }
 }
 
 // The number of the head at a position, by its head information: the lowest five bits of the first byte.
@@ -160,9 +165,12 @@ fn argument_at(s: &[u8], at: usize, info: u8) -> Argument
     ensures { λ r. ⌜ ((k : Kind·rules) → argumentIs k at r ≡ readArgument k info (now (s .entry)) at) ⌝ }
 {
     match info {
-        0..=23 => Argument::Is(info as u64, at + 1),
+        0..=23 => Argument::Is {
+            value: info as u64,
+            next: at + 1,
+        },
         24..=27 => long_at(s, at, info),
-        _ => Argument::Refused(3),
+        _ => Argument::Refused(HEAD),
     }
 }
 
@@ -172,14 +180,14 @@ fn item_of(kind: Kind, v: u64, next: usize) -> Item
     ensures { λ r. ⌜ ((at : ℕ) → itemIs at r ≡ accepted (kindIs kind) v next) ⌝ }
 {
     match kind {
-        Kind::Number => Item::Number(v, next),
-        Kind::Negative => Item::Negative(v, next),
-        Kind::ByteString => Item::ByteString(v, next),
-        Kind::Text => Item::Text(v, next),
-        Kind::Array => Item::Array(v, next),
+        Kind::Number => Item::Number { value: v, next },
+        Kind::Negative => Item::Negative { value: v, next },
+        Kind::ByteString => Item::ByteString { length: v, next },
+        Kind::Text => Item::Text { length: v, next },
+        Kind::Array => Item::Array { count: v, next },
         Kind::True => Item::True(next),
         Kind::Null => Item::Null(next),
-        Kind::Other => Item::Refused(2),
+        Kind::Other => Item::Refused(FORM),
     }
 }
 
@@ -188,17 +196,17 @@ pub fn item_at(s: &[u8], at: usize, allowed: Kinds) -> Item
     ensures { λ r. ⌜ itemIs at r ≡ readHead (allows allowed) (now (s .entry)) at ⌝ }
 {
     if s.len() <= at {
-        return Item::Refused(1);
+        return Item::Refused(CUT);
     }
     let b = s[at];
     let kind = kind_of(b);
     if is_allowed(allowed, kind) {
         match argument_at(s, at, b % 32) {
-            Argument::Is(v, next) => item_of(kind, v, next),
+            Argument::Is { value: v, next } => item_of(kind, v, next),
             Argument::Refused(n) => Item::Refused(n),
         }
     } else {
-        Item::Refused(2)
+        Item::Refused(FORM)
     }
 }
 

@@ -8,7 +8,7 @@ use Rattle.rules.specs.Bytes.{Bytes}
 use Rattle.rules.specs.Model as Model
 use Rattle.rules.specs.Reader.{spanAt, endAt, spans}
 use Rattle.rules.specs.Views.{nowhere}
-use Rattle.rules.proofs.Texts.{ItemStands, Items}
+use Rattle.rules.specs.Standing.{ItemStands, RowAt}
 use Rattle.cbor.specs.declared.Span.{Span}
 use Rattle.cbor.specs.Heads.{spanIs}
 use Rattle.components.specs.Layout.{spanLaid, pad, spansLaid}
@@ -28,19 +28,19 @@ pub record Filled (size : ℕ) (bs : Bytes) (at n next i : ℕ) (array : List Sp
   pub most : i ≤ n
   pub holds : array ≡ spansLaid size done
   pub left : done ++ spans bs next (n - i) ≡ spans bs at n
-  pub stand : Items bs next (n - i)
+  pub stand : RowAt bs next (n - i)
 
-pub fill-start : (size : ℕ) (bs : Bytes) (at n : ℕ) → Items bs at n → Filled size bs at n at 0 (spansLaid size [])
+pub fill-start : (size : ℕ) (bs : Bytes) (at n : ℕ) → RowAt bs at n → Filled size bs at n at 0 (spansLaid size [])
 fill-start size bs at n h =
     let e : n ≡ n - 0 = omega arith in
-    record { done = []; count = refl; most = omega arith; holds = refl; left = ap (spans bs at) (sym e); stand = subst (Items bs at) e h }
+    record { done = []; count = refl; most = omega arith; holds = refl; left = ap (spans bs at) (sym e); stand = subst (RowAt bs at) e h }
 
 module _ {size : ℕ} {bs : Bytes} {at n next i : ℕ} {array : List Span} (f : Filled size bs at n next i array) where
   one-more : i < n → n - i ≡ suc (n - (i + 1))
   one-more h = omega arith
 
   pub fill-item : i < n → ItemStands bs next
-  fill-item h = subst (Items bs next) (one-more h) (f .stand) .0
+  fill-item h = subst (RowAt bs next) (one-more h) (f .stand) .0
 
   pub fill-inside : i < n → (span : Span) → spanIs span ≡ spanAt bs next → span .start + span .length ≤ length bs
   fill-inside h span e = subst (λ (s : Model.Span). s .start + s .length ≤ length bs) (sym e) (fill-item h .inside)
@@ -66,7 +66,7 @@ module _ {size : ℕ} {bs : Bytes} {at n next i : ℕ} {array : List Span} (f : 
             ∙ append-assoc (f .done) (spanAt bs next ∷ []) (spans bs (endAt bs next) (n - (i + 1)))
             ∙ ap (λ (k : ℕ). f .done ++ spans bs next k) (sym (one-more h))
             ∙ f .left;
-        stand = subst (λ (p : ℕ). Items bs p (n - (i + 1))) end (subst (Items bs next) (one-more h) (f .stand) .1);
+        stand = subst (λ (p : ℕ). RowAt bs p (n - (i + 1))) end (subst (RowAt bs next) (one-more h) (f .stand) .1);
       }
 
   pub fill-end : n ≤ i → array ≡ spansLaid size (spans bs at n)

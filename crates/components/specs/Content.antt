@@ -6,7 +6,7 @@ use Rattle.rules.specs.Model as Model
 use Rattle.rules.specs.Views.{nowhere}
 use Rattle.cbor.specs.declared.Span.{Span}
 use Rattle.cbor.specs.Heads.{spanIs}
-use Rattle.reader.specs.Code.{portOf}
+use Rattle.reader.specs.Answers.{portOf}
 use Rattle.components.specs.declared.Scheme.{Scheme}
 use Rattle.components.specs.declared.Scheme.the-variants as SchemeV
 use Rattle.components.specs.declared.Authority.{Authority}

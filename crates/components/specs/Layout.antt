@@ -4,7 +4,7 @@ use mathlib.Core.List.{List, [], _∷_, map}
 use mathlib.Core.Option.{Option, none, some}
 use lib.ListN.{length, replicate}
 use Rattle.rules.specs.Model as Model
-use Rattle.rules.specs.Model.{elements, limits}
+use Rattle.rules.specs.Model.{elements, limits, mostLabels, mostParameters}
 use Rattle.rules.specs.Writing as Writing
 use Rattle.rules.specs.Writing.{openingLabels}
 use Rattle.rules.specs.Views.{nowhere}
@@ -80,11 +80,11 @@ abbrev pub componentsLaid : Model.Components → Components
 componentsLaid c =
     record {
       opening = openingLaid (c .opening);
-      labels = spansLaid 8 (openingLabels (c .opening));
+      labels = spansLaid mostLabels (openingLabels (c .opening));
       path = textsLaid (c .path);
       segments = spansLaid (limits .segments) (elements (c .path));
       query = textsLaid (c .query);
-      parameters = spansLaid 16 (elements (c .query));
+      parameters = spansLaid mostParameters (elements (c .query));
       fragment = fragmentLaid (c .fragment);
     }
 

@@ -2,15 +2,19 @@
 ghost use mathlib.Core.Path.{_≡_};
 ghost use mathlib.Core.Option.{some};
 ghost use Rattle.rules.specs.Bytes.{Bytes};
-ghost use Rattle.rules.specs.Model.{elements, limits};
+ghost use Rattle.rules.specs.Model.{elements, limits, mostLabels, mostParameters};
 ghost use Rattle.rules.specs.Reader.{spans};
 ghost use Rattle.rules.specs.Meaning.{schemeSpan, hostSpans, authoritySpans, openingSpans, textSpans, textSpan, components};
 ghost use Rattle.rules.specs.Writing.{labelsOf, openingLabels, noComponents, readCall};
-ghost use Rattle.rules.proofs.Standing.{ItemsStand, HostStands, OpeningStands, TextsStand, FoundStands};
-ghost use Rattle.reader.specs.Code.{slotOf, hostOf, authorityOf, schemeOf, openingOf, foundOf};
+ghost use Rattle.rules.specs.Standing.{RowWithin, HostStands, OpeningStands, TextsStand, FoundStands};
+ghost use Rattle.reader.specs.Answers.{slotOf, hostOf, authorityOf, schemeOf, openingOf, foundOf};
 ghost use Rattle.components.specs.Layout.{spansLaid, schemeLaid, authorityLaid, openingLaid, textsLaid, fragmentLaid, componentsLaid, readingLaid};
 pub use cbor::Span;
 use cbor::span_at;
+use numbers::DONE;
+use numbers::LABELS;
+use numbers::PARAMETERS;
+use numbers::SEGMENTS;
 use reader::Answer;
 use reader::AuthorityAt;
 use reader::Found;
@@ -19,9 +23,6 @@ use reader::OpeningAt;
 pub use reader::Port;
 use reader::SchemeAt;
 use reader::Slot;
-
-// How many segments a path may have.
-const SEGMENTS: usize = 32;
 
 // Unset; or a scheme's number; or where its text stands.
 pub enum Scheme {
@@ -58,11 +59,11 @@ pub enum Fragment {
 // Each text by where it stands. Those beyond a count are empty spans at 0.
 pub struct Components {
     pub opening: Opening,
-    pub labels: [Span; 8],
+    pub labels: [Span; LABELS],
     pub path: Texts,
     pub segments: [Span; SEGMENTS],
     pub query: Texts,
-    pub parameters: [Span; 16],
+    pub parameters: [Span; PARAMETERS],
     pub fragment: Fragment,
 }
 
@@ -81,11 +82,11 @@ const NOWHERE: Span = Span {
 };
 
 // Where n labels stand, the first at a position.
-fn label_spans(s: &[u8], at: usize, n: usize) -> [Span; 8]
-    requires { ⌜ ItemsStand 8 (now s) at n ⌝ }
-    ensures { λ r. ⌜ r ≡ spansLaid 8 (spans (now (s .entry)) at n) ⌝ }
+fn label_spans(s: &[u8], at: usize, n: usize) -> [Span; LABELS]
+    requires { ⌜ RowWithin mostLabels (now s) at n ⌝ }
+    ensures { λ r. ⌜ r ≡ spansLaid mostLabels (spans (now (s .entry)) at n) ⌝ }
 {
-    let mut found = [NOWHERE; 8];
+    let mut found = [NOWHERE; LABELS];
     let mut next = at;
     let mut i = 0;
     while i < n {
@@ -99,7 +100,7 @@ fn label_spans(s: &[u8], at: usize, n: usize) -> [Span; 8]
 
 // The same of segments.
 fn segment_spans(s: &[u8], at: usize, n: usize) -> [Span; SEGMENTS]
-    requires { ⌜ ItemsStand (limits .segments) (now s) at n ⌝ }
+    requires { ⌜ RowWithin (limits .segments) (now s) at n ⌝ }
     ensures { λ r. ⌜ r ≡ spansLaid (limits .segments) (spans (now (s .entry)) at n) ⌝ }
 {
     let mut found = [NOWHERE; SEGMENTS];
@@ -115,11 +116,11 @@ fn segment_spans(s: &[u8], at: usize, n: usize) -> [Span; SEGMENTS]
 }
 
 // The same of parameters.
-fn parameter_spans(s: &[u8], at: usize, n: usize) -> [Span; 16]
-    requires { ⌜ ItemsStand 16 (now s) at n ⌝ }
-    ensures { λ r. ⌜ r ≡ spansLaid 16 (spans (now (s .entry)) at n) ⌝ }
+fn parameter_spans(s: &[u8], at: usize, n: usize) -> [Span; PARAMETERS]
+    requires { ⌜ RowWithin mostParameters (now s) at n ⌝ }
+    ensures { λ r. ⌜ r ≡ spansLaid mostParameters (spans (now (s .entry)) at n) ⌝ }
 {
-    let mut found = [NOWHERE; 16];
+    let mut found = [NOWHERE; PARAMETERS];
     let mut next = at;
     let mut i = 0;
     while i < n {
@@ -139,7 +140,7 @@ fn scheme_of(scheme: SchemeAt) -> Scheme
     match scheme {
         SchemeAt::Unset => Scheme::Unset,
         SchemeAt::Number(n) => Scheme::Number(n),
-        SchemeAt::Name(at, n) => Scheme::Name(Span {
+        SchemeAt::Name { at, length: n } => Scheme::Name(Span {
             start: at,
             length: n,
         }),
@@ -152,14 +153,14 @@ fn authority_of(authority: AuthorityAt) -> Authority
     let host = authority.host;
     let port = authority.port;
     match host {
-        HostAt::Address(at, n) => Authority::Address(
+        HostAt::Address { at, length: n } => Authority::Address(
             Span {
                 start: at,
                 length: n,
             },
             port,
         ),
-        HostAt::Labels(_, n) => Authority::Labels(n, port),
+        HostAt::Labels { count: n, .. } => Authority::Labels(n, port),
     }
 }
 
@@ -177,19 +178,19 @@ fn opening_of(opening: OpeningAt) -> Opening
 }
 
 // Where the labels of a host stand.
-fn host_labels(s: &[u8], host: HostAt) -> [Span; 8]
+fn host_labels(s: &[u8], host: HostAt) -> [Span; LABELS]
     requires { ⌜ HostStands (now s) (hostOf host) ⌝ }
-    ensures { λ r. ⌜ r ≡ spansLaid 8 (labelsOf (hostSpans (now (s .entry)) (hostOf host))) ⌝ }
+    ensures { λ r. ⌜ r ≡ spansLaid mostLabels (labelsOf (hostSpans (now (s .entry)) (hostOf host))) ⌝ }
 {
     match host {
-        HostAt::Address(_, _) => label_spans(s, 0, 0),
-        HostAt::Labels(at, n) => label_spans(s, at, n),
+        HostAt::Address { .. } => label_spans(s, 0, 0),
+        HostAt::Labels { at, count: n } => label_spans(s, at, n),
     }
 }
 
-fn labels_of(s: &[u8], opening: OpeningAt) -> [Span; 8]
+fn labels_of(s: &[u8], opening: OpeningAt) -> [Span; LABELS]
     requires { ⌜ OpeningStands (now s) (openingOf opening) ⌝ }
-    ensures { λ r. ⌜ r ≡ spansLaid 8 (openingLabels (openingSpans (now (s .entry)) (openingOf opening))) ⌝ }
+    ensures { λ r. ⌜ r ≡ spansLaid mostLabels (openingLabels (openingSpans (now (s .entry)) (openingOf opening))) ⌝ }
 {
     match opening {
         OpeningAt::Discard(_) => label_spans(s, 0, 0),
@@ -206,7 +207,7 @@ fn texts_of(slot: Slot) -> Texts
 {
     match slot {
         Slot::Unset => Texts::Unset,
-        Slot::Set(_, n) => Texts::Set(n),
+        Slot::Set { count: n, .. } => Texts::Set(n),
     }
 }
 
@@ -216,17 +217,17 @@ fn segments_of(s: &[u8], path: Slot) -> [Span; SEGMENTS]
 {
     match path {
         Slot::Unset => segment_spans(s, 0, 0),
-        Slot::Set(at, n) => segment_spans(s, at, n),
+        Slot::Set { at, count: n } => segment_spans(s, at, n),
     }
 }
 
-fn parameters_of(s: &[u8], query: Slot) -> [Span; 16]
-    requires { ⌜ TextsStand 16 (now s) (slotOf query) ⌝ }
-    ensures { λ r. ⌜ r ≡ spansLaid 16 (elements (textSpans (now (s .entry)) (slotOf query))) ⌝ }
+fn parameters_of(s: &[u8], query: Slot) -> [Span; PARAMETERS]
+    requires { ⌜ TextsStand mostParameters (now s) (slotOf query) ⌝ }
+    ensures { λ r. ⌜ r ≡ spansLaid mostParameters (elements (textSpans (now (s .entry)) (slotOf query))) ⌝ }
 {
     match query {
         Slot::Unset => parameter_spans(s, 0, 0),
-        Slot::Set(at, n) => parameter_spans(s, at, n),
+        Slot::Set { at, count: n } => parameter_spans(s, at, n),
     }
 }
 
@@ -235,7 +236,7 @@ fn fragment_of(slot: Slot) -> Fragment
 {
     match slot {
         Slot::Unset => Fragment::Unset,
-        Slot::Set(at, n) => Fragment::Is(Span {
+        Slot::Set { at, count: n } => Fragment::Is(Span {
             start: at,
             length: n,
         }),
@@ -247,9 +248,9 @@ fn fragment_of(slot: Slot) -> Fragment
 fn no_components() -> Components
     ensures { λ r. ⌜ r ≡ componentsLaid noComponents ⌝ }
 {
-    let labels = [NOWHERE; 8];
+    let labels = [NOWHERE; LABELS];
     let segments = [NOWHERE; SEGMENTS];
-    let parameters = [NOWHERE; 16];
+    let parameters = [NOWHERE; PARAMETERS];
     Components {
         opening: Opening::Full(Scheme::Unset, Authority::Unset),
         labels: labels,
@@ -289,7 +290,7 @@ pub fn read(s: &[u8]) -> Reading
 {
     match reader::read(s) {
         Answer::Is(found) => Reading {
-            number: 0,
+            number: DONE,
             components: components_of(s, found),
         },
         Answer::Refused(n, _) => Reading {

@@ -1,21 +1,5 @@
 // The library's calls. Each takes any bytes, and answers for all of them what its `ensures` says; the definitions named there are in
 // crates/rules/specs, how components are laid out in crates/components/specs, what a part of a slice is in crates/views/specs.
-//
-// The numbers of refusals (docs/RULES.md, 3.2), which a call answers beside its result:
-//    0  done: nothing is refused
-//    1  the bytes end inside the array, or there are none
-//    2  an item of a kind, or a count of items, that is not allowed at its place
-//    3  a head that is indefinite, reserved or not the shortest
-//    4  a number, length or count outside its range
-//    5  a text that is not UTF-8
-//    6  an unknown scheme number, or a broken rule of a scheme, a label or a segment
-//    7  bytes after the array
-//    8  a base that is refused or not absolute, or a link that is not absolute to be printed or requested
-//    9  a resolved CRI of over 32 segments or over 1,024 bytes
-//   10  the room is shorter than the output
-//   11  a link to be requested whose scheme is a text, or which has a fragment
-//   12  a destination address that has not 4 or 16 bytes
-//   18  a path segment that is not there
 ghost use mathlib.Core.Path.{_≡_};
 ghost use lib.ListN.{length};
 ghost use Rattle.rules.specs.Calls.{outcome, after, writeCall, resolveCall, textCall, optionsCall};
@@ -23,7 +7,7 @@ ghost use Rattle.rules.specs.Model.{limits};
 ghost use Rattle.rules.specs.Writing.{readCall};
 ghost use Rattle.components.specs.Content.{componentsOf};
 ghost use Rattle.components.specs.Layout.{readingLaid};
-ghost use Rattle.outcomes.specs.Answer.{doneIs};
+ghost use Rattle.outcomes.specs.Answers.{doneIs};
 pub use cbor::Span;
 pub use components::Authority;
 pub use components::Components;
@@ -35,6 +19,27 @@ pub use components::Texts;
 pub use outcomes::Done;
 pub use reader::Port;
 
+// What a call answers beside its result: DONE, or the number of its refusal (crates/numbers says when each is given).
+pub use numbers::BASE;
+pub use numbers::COAP;
+pub use numbers::CUT;
+pub use numbers::DEST;
+pub use numbers::DONE;
+pub use numbers::FORM;
+pub use numbers::HEAD;
+pub use numbers::LIMIT;
+pub use numbers::NONE;
+pub use numbers::RESULT;
+pub use numbers::ROOM;
+pub use numbers::RULE;
+pub use numbers::TAIL;
+pub use numbers::TEXT;
+
+// The largest input, and rooms that are long enough for the text and for the options of every link.
+pub use numbers::BYTES;
+pub use numbers::OPTIONS_ROOM;
+pub use numbers::TEXT_ROOM;
+
 // The views, whose contracts stand in crates/views. `segment` and `authority` give a part of a lent slice; `segment_number` and `authority_number`
 // of the same arguments tell the number of that call.
 pub use views::authority;
@@ -43,11 +48,11 @@ pub use views::segment;
 pub use views::segment_number;
 
 // Reads a CRI reference: 0 and its components; or a number from 1 to 7, and every component unset.
-// Texts and addresses are given by where they stand in s.
-pub fn read(s: &[u8]) -> Reading
-    ensures { λ r. ⌜ r ≡ readingLaid (readCall limits (now (s .entry))) ⌝ }
+// Texts and addresses are given by where they stand in the link.
+pub fn read(link: &[u8]) -> Reading
+    ensures { λ r. ⌜ r ≡ readingLaid (readCall limits (now (link .entry))) ⌝ }
 {
-    components::read(s)
+    components::read(link)
 }
 
 // Writes a CRI reference from components, whose texts and addresses stand in `lent`, into the room: 0 and the length written. Or it
@@ -62,7 +67,7 @@ pub fn write(components: Components, lent: &[u8], room: &mut [u8]) -> Done
 
 // Resolves a reference against a base, and writes the resolved CRI into the room: 0 and the length written. Or it refuses, with length 0,
 // and the room is as it was: 8 where the base is refused or not absolute; the number from 1 to 7 that `read` has for the reference;
-// 9 where the result has over 32 segments or over 1,024 bytes; 10 where the room is shorter than the result.
+// 9 where the result has more segments or bytes than a link may have; 10 where the room is shorter than the result.
 pub fn resolve(base: &[u8], reference: &[u8], room: &mut [u8]) -> Done
     ensures { λ r. ⌜ doneIs r ≡ outcome (resolveCall limits (now (base .entry)) (now (reference .entry))) (length (now (room .entry))) ⌝ }
     ensures { λ _. ⌜ now (room .exit) ≡ after (resolveCall limits (now (base .entry)) (now (reference .entry))) (now (room .entry)) ⌝ }
@@ -71,22 +76,22 @@ pub fn resolve(base: &[u8], reference: &[u8], room: &mut [u8]) -> Done
 }
 
 // Writes the URI text of an absolute CRI into the room: 0 and the length written. Or it refuses, with length 0, and the room is as it
-// was: the number from 1 to 7 that `read` has for s; 8 where s is not absolute; 10 where the room is shorter than the text. For s of n
-// bytes a room of 3n + 13 is long enough.
-pub fn uri_text(s: &[u8], room: &mut [u8]) -> Done
-    ensures { λ r. ⌜ doneIs r ≡ outcome (textCall limits (now (s .entry))) (length (now (room .entry))) ⌝ }
-    ensures { λ _. ⌜ now (room .exit) ≡ after (textCall limits (now (s .entry))) (now (room .entry)) ⌝ }
+// was: the number from 1 to 7 that `read` has for the link; 8 where the link is not absolute; 10 where the room is shorter than the text.
+// For a link of n bytes a room of 3n + 13 is long enough.
+pub fn uri_text(link: &[u8], room: &mut [u8]) -> Done
+    ensures { λ r. ⌜ doneIs r ≡ outcome (textCall limits (now (link .entry))) (length (now (room .entry))) ⌝ }
+    ensures { λ _. ⌜ now (room .exit) ≡ after (textCall limits (now (link .entry))) (now (room .entry)) ⌝ }
 {
-    uri::uri_text(s, room)
+    uri::uri_text(link, room)
 }
 
 // Writes the CoAP options of a request for an absolute CRI into the room, given the address and the port that the request is sent to: 0 and
 // the length written. Or it refuses, with length 0, and the room is as it was: 12 where the address has not 4 or 16 bytes; the number from
-// 1 to 7 that `read` has for s; 8 where s is not absolute; 11 where its scheme is a text or a fragment is set; 10 where the room is
-// shorter than the options. For s of n bytes a room of 2n + 16 is long enough.
-pub fn options(s: &[u8], address: &[u8], port: u16, room: &mut [u8]) -> Done
-    ensures { λ r. ⌜ doneIs r ≡ outcome (optionsCall limits (now (s .entry)) (now (address .entry)) port) (length (now (room .entry))) ⌝ }
-    ensures { λ _. ⌜ now (room .exit) ≡ after (optionsCall limits (now (s .entry)) (now (address .entry)) port) (now (room .entry)) ⌝ }
+// 1 to 7 that `read` has for the link; 8 where the link is not absolute; 11 where its scheme is a text or a fragment is set; 10 where the
+// room is shorter than the options. For a link of n bytes a room of 2n + 16 is long enough.
+pub fn options(link: &[u8], address: &[u8], port: u16, room: &mut [u8]) -> Done
+    ensures { λ r. ⌜ doneIs r ≡ outcome (optionsCall limits (now (link .entry)) (now (address .entry)) port) (length (now (room .entry))) ⌝ }
+    ensures { λ _. ⌜ now (room .exit) ≡ after (optionsCall limits (now (link .entry)) (now (address .entry)) port) (now (room .entry)) ⌝ }
 {
-    options::options(s, address, port, room)
+    coap_options::options(link, address, port, room)
 }

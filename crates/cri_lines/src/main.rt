@@ -13,7 +13,7 @@ fn answer_line(out: &mut Output, used: usize, line: &[u8]) -> usize {
     if 65536 < line.len() {
         return add_text(out, used, b"? line over 65536 bytes\n");
     }
-    let at = requests::answer(out, used, line);
+    let at = lines_requests::answer(out, used, line);
     add_byte(out, at, b'\n')
 }
 

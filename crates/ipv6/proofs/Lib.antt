@@ -1,3 +1,3 @@
 pub mod Groups
-pub mod Runs
-pub mod Texts
+pub mod ZeroRuns
+pub mod GroupTexts

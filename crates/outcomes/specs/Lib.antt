@@ -1,2 +1,2 @@
 -- What the struct of an answer says.
-pub mod Answer
+pub mod Answers

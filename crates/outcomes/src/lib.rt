@@ -2,7 +2,9 @@
 ghost use mathlib.Core.Path.{_≡_};
 ghost use lib.ListN.{length};
 ghost use Rattle.rules.specs.Calls.{write, outcome, after};
-ghost use Rattle.outcomes.specs.Answer.{doneIs};
+ghost use Rattle.outcomes.specs.Answers.{doneIs};
+use numbers::DONE;
+use numbers::ROOM;
 use put::put_bytes;
 
 // 0 and the length written; or a refusal's number and 0.
@@ -27,10 +29,10 @@ pub fn copied(s: &[u8], room: &mut [u8]) -> Done
     ensures { λ _. ⌜ now (room .exit) ≡ after (write (now (s .entry))) (now (room .entry)) ⌝ }
 {
     if room.len() < s.len() {
-        return refused(10);
+        return refused(ROOM);
     }
     Done {
-        number: 0,
+        number: DONE,
         length: put_bytes(room, 0, s),
     }
 }

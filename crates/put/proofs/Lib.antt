@@ -1,4 +1,4 @@
 pub mod Joined
-pub mod Laws
-pub mod Rows
+pub mod Wrote
+pub mod RowTurns
 pub mod Tables

@@ -1,3 +1,3 @@
 -- The laws that the functions' proofs cite.
-pub mod Items
-pub mod Cases
+pub mod ItemAnswers
+pub mod ReaderCases

@@ -1,2 +1,2 @@
 -- What the code's answers say, in the terms of the rules.
-pub mod Code
+pub mod Answers

@@ -7,13 +7,30 @@ ghost use lib.Dec.{eqb};
 ghost use Rattle.rules.specs.Bytes.{Bytes};
 ghost use Rattle.rules.specs.Model.{limits};
 ghost use Rattle.rules.specs.Head.{Number, Negative, ByteString, Text, Array, True, Null, is, readHead};
-ghost use Rattle.rules.specs.Rules.{knownScheme};
 ghost use Rattle.rules.specs.Reader as R;
 ghost use Rattle.cbor.specs.Heads.{allows, accepted};
-ghost use Rattle.texts.specs.Code.{sortIs, stepIs};
-ghost use Rattle.reader.specs.Code.{headIs, runIs, slotIs, namesIs, schemeOf, authorityIs, readHost, openingOf, openedIs, firstIs, foundOf, answerIs, readEnd, readRest, readItems};
+ghost use Rattle.texts.specs.Answers.{sortIs, stepIs};
+ghost use Rattle.reader.specs.Answers.{headIs, rowEndIs, slotIs, namesIs, schemeOf, authorityIs, readHost, openingOf, openedIs, firstIs, foundOf, answerIs, readEnd, readRest, readItems};
 use cbor::Item;
 use cbor::Kinds;
+use numbers::AUTHORITY_ITEMS;
+use numbers::BYTES;
+use numbers::CUT;
+use numbers::DISCARD;
+use numbers::DISCARD_ITEMS;
+use numbers::FORM;
+use numbers::ITEMS;
+use numbers::LABELS;
+use numbers::LIMIT;
+use numbers::PARAMETERS;
+use numbers::PORT;
+use numbers::RULE;
+use numbers::SEGMENTS;
+use numbers::TAIL;
+use schemes::SchemeId;
+use schemes::SchemeNumber;
+use schemes::scheme_id;
+use schemes::scheme_number;
 use texts::Sort;
 use texts::Step;
 
@@ -22,13 +39,13 @@ use texts::Step;
 // Path, query or fragment: unset; or the position of its first text and how many texts it has (of a fragment: of its bytes and how many).
 pub enum Slot {
     Unset,
-    Set(usize, usize),
+    Set { at: usize, count: usize },
 }
 
 // The position of an address and its length; or of the first label and how many labels there are.
 pub enum HostAt {
-    Address(usize, usize),
-    Labels(usize, usize),
+    Address { at: usize, length: usize },
+    Labels { at: usize, count: usize },
 }
 
 pub enum Port {
@@ -48,7 +65,7 @@ pub struct AuthorityAt {
 pub enum SchemeAt {
     Unset,
     Number(u64),
-    Name(usize, usize),
+    Name { at: usize, length: usize },
 }
 
 pub enum OpeningAt {
@@ -73,25 +90,29 @@ pub enum Answer {
 
 // A head's number and the position after it; or a refusal's number, whose place is the head's.
 enum Head {
-    Is(u64, usize),
+    Is { value: u64, next: usize },
     Refused(u8),
 }
 
-// The position after a run of texts.
-enum Run {
-    Next(usize),
+// The position after texts that stand in a row.
+enum RowEnd {
+    At(usize),
     Refused(u8, usize),
 }
 
 // A slot, and the position after it.
 enum SlotAt {
-    Is(Slot, usize),
+    Is { slot: Slot, next: usize },
     Refused(u8, usize),
 }
 
 // How many labels there are, the port, and the position after it.
 enum Names {
-    Are(usize, Port, usize),
+    Are {
+        count: usize,
+        port: Port,
+        next: usize,
+    },
     Refused(u8, usize),
 }
 
@@ -102,14 +123,18 @@ enum Authority {
 
 // The first item and the position after it: a discard; or a scheme, which the authority follows. Or a refusal's number, whose place is the item's.
 enum First {
-    Discard(OpeningAt, usize),
-    Scheme(SchemeAt, usize),
+    Discard { opening: OpeningAt, next: usize },
+    Scheme { scheme: SchemeAt, next: usize },
     Refused(u8),
 }
 
 // The opening, the position after it, and how many items are left.
 enum Opened {
-    Is(OpeningAt, usize, usize),
+    Is {
+        opening: OpeningAt,
+        next: usize,
+        left: usize,
+    },
     Refused(u8, usize),
 }
 
@@ -233,9 +258,9 @@ fn array_head(s: &[u8], at: usize) -> Head
     ensures { λ r. ⌜ headIs at r ≡ readHead (is Array) (now (s .entry)) at ⌝ }
 {
     match cbor::item_at(s, at, only_array()) {
-        Item::Array(n, next) => Head::Is(n, next),
+        Item::Array { count: n, next } => Head::Is { value: n, next },
         Item::Refused(n) => Head::Refused(n),
-        _ => Head::Refused(2),
+        _ => Head::Refused(FORM),
     }
 }
 
@@ -243,39 +268,42 @@ fn text_at(s: &[u8], at: usize, sort: Sort) -> Step
     ensures { λ r. ⌜ stepIs at r ≡ R.readText (sortIs sort) (now (s .entry)) at ⌝ }
 {
     match cbor::item_at(s, at, only_text()) {
-        Item::Text(n, next) => texts::text_body(s, n, next, sort),
+        Item::Text { length: n, next } => texts::text_body(s, next, n, sort),
         Item::Refused(n) => Step::Refused(n),
-        _ => Step::Refused(2),
+        _ => Step::Refused(FORM),
     }
 }
 
-fn texts_at(s: &[u8], at: usize, count: usize, sort: Sort) -> Run
-    ensures { λ r. ⌜ runIs r ≡ R.readTexts (sortIs sort) (now (s .entry)) at count ⌝ }
+fn row_at(s: &[u8], at: usize, count: usize, sort: Sort) -> RowEnd
+    ensures { λ r. ⌜ rowEndIs r ≡ R.readRow (sortIs sort) (now (s .entry)) at count ⌝ }
 {
     let mut here = at;
     let mut left = count;
     while 0 < left {
         match text_at(s, here, sort) {
-            Step::Refused(n) => return Run::Refused(n, here),
+            Step::Refused(n) => return RowEnd::Refused(n, here),
             Step::Next(next) => {
                 here = next;
                 left -= 1;
             }
         }
     }
-    Run::Next(here)
+    RowEnd::At(here)
 }
 
 // ---- path, query, fragment
 
-// Null, after which so many items are left: never the last.
+// Null, after which `left` items are left: never the last.
 fn null_body(at: usize, left: usize, next: usize) -> SlotAt
     ensures { λ r. ⌜ slotIs r ≡ R.nullBody at left (record { kind = Null; value = 22; next = next }) ⌝ }
 {
     if left == 0 {
-        return SlotAt::Refused(2, at);
+        return SlotAt::Refused(FORM, at);
     }
-    SlotAt::Is(Slot::Unset, next)
+    SlotAt::Is {
+        slot: Slot::Unset,
+        next,
+    }
 }
 
 // An array of low to high texts, whose head has been read.
@@ -283,15 +311,18 @@ fn array_body(s: &[u8], at: usize, sort: Sort, low: u64, high: u64, n: u64, next
     ensures { λ r. ⌜ slotIs r ≡ R.arrayBody (sortIs sort) low high (now (s .entry)) at (record { kind = Array; value = n; next = next }) ⌝ }
 {
     if n < low {
-        return SlotAt::Refused(4, at);
+        return SlotAt::Refused(LIMIT, at);
     }
     if high < n {
-        return SlotAt::Refused(4, at);
+        return SlotAt::Refused(LIMIT, at);
     }
     let count = n as usize;
-    match texts_at(s, next, count, sort) {
-        Run::Refused(k, place) => SlotAt::Refused(k, place),
-        Run::Next(end) => SlotAt::Is(Slot::Set(next, count), end),
+    match row_at(s, next, count, sort) {
+        RowEnd::Refused(k, place) => SlotAt::Refused(k, place),
+        RowEnd::At(end) => SlotAt::Is {
+            slot: Slot::Set { at: next, count },
+            next: end,
+        },
     }
 }
 
@@ -300,13 +331,16 @@ fn array_at(s: &[u8], at: usize, left: usize, sort: Sort, low: u64, high: u64) -
     ensures { λ r. ⌜ slotIs r ≡ R.readArray (sortIs sort) low high (now (s .entry)) at left ⌝ }
 {
     if left == 0 {
-        return SlotAt::Is(Slot::Unset, at);
+        return SlotAt::Is {
+            slot: Slot::Unset,
+            next: at,
+        };
     }
     match cbor::item_at(s, at, array_or_null()) {
-        Item::Array(n, next) => array_body(s, at, sort, low, high, n, next),
+        Item::Array { count: n, next } => array_body(s, at, sort, low, high, n, next),
         Item::Null(next) => null_body(at, left - 1, next),
         Item::Refused(n) => SlotAt::Refused(n, at),
-        _ => SlotAt::Refused(2, at),
+        _ => SlotAt::Refused(FORM, at),
     }
 }
 
@@ -314,9 +348,15 @@ fn fragment_body(s: &[u8], at: usize, n: u64, next: usize) -> SlotAt
     requires { ⌜ next ≤ length (now s) ⌝ }
     ensures { λ r. ⌜ slotIs r ≡ R.fragmentBody (now (s .entry)) at (record { kind = Text; value = n; next = next }) ⌝ }
 {
-    match texts::text_body(s, n, next, Sort::Fragment) {
+    match texts::text_body(s, next, n, Sort::Fragment) {
         Step::Refused(k) => SlotAt::Refused(k, at),
-        Step::Next(end) => SlotAt::Is(Slot::Set(next, n as usize), end),
+        Step::Next(end) => SlotAt::Is {
+            slot: Slot::Set {
+                at: next,
+                count: n as usize,
+            },
+            next: end,
+        },
     }
 }
 
@@ -325,41 +365,48 @@ fn fragment_at(s: &[u8], at: usize, left: usize) -> SlotAt
     ensures { λ r. ⌜ slotIs r ≡ R.readFragment (now (s .entry)) at left ⌝ }
 {
     if left == 0 {
-        return SlotAt::Is(Slot::Unset, at);
+        return SlotAt::Is {
+            slot: Slot::Unset,
+            next: at,
+        };
     }
     match cbor::item_at(s, at, text_or_null()) {
-        Item::Text(n, next) => fragment_body(s, at, n, next),
+        Item::Text { length: n, next } => fragment_body(s, at, n, next),
         Item::Null(next) => null_body(at, left - 1, next),
         Item::Refused(n) => SlotAt::Refused(n, at),
-        _ => SlotAt::Refused(2, at),
+        _ => SlotAt::Refused(FORM, at),
     }
 }
 
 // ---- authority
 
 // Nothing may stand after the port.
-fn nothing_at(s: &[u8], at: usize, left: usize) -> Run
-    ensures { λ r. ⌜ runIs r ≡ R.readNothing (now (s .entry)) at left ⌝ }
+fn nothing_at(s: &[u8], at: usize, left: usize) -> RowEnd
+    ensures { λ r. ⌜ rowEndIs r ≡ R.readNothing (now (s .entry)) at left ⌝ }
 {
     if left == 0 {
-        return Run::Next(at);
+        return RowEnd::At(at);
     }
     if s.len() <= at {
-        return Run::Refused(1, at);
+        return RowEnd::Refused(CUT, at);
     }
-    Run::Refused(2, at)
+    RowEnd::Refused(FORM, at)
 }
 
-// A port, whose head has been read, after so many labels.
+// A port, whose head has been read, after `count` labels.
 fn port_body(s: &[u8], at: usize, left: usize, count: usize, n: u64, next: usize) -> Names
     ensures { λ r. ⌜ namesIs r ≡ R.portBody (now (s .entry)) at left count (record { kind = Number; value = n; next = next }) ⌝ }
 {
-    if 65535 < n {
-        return Names::Refused(4, at);
+    if PORT < n {
+        return Names::Refused(LIMIT, at);
     }
     match nothing_at(s, next, left) {
-        Run::Refused(k, place) => Names::Refused(k, place),
-        Run::Next(end) => Names::Are(count, Port::Is(n), end),
+        RowEnd::Refused(k, place) => Names::Refused(k, place),
+        RowEnd::At(end) => Names::Are {
+            count,
+            port: Port::Is(n),
+            next: end,
+        },
     }
 }
 
@@ -368,27 +415,31 @@ fn port_at(s: &[u8], at: usize, left: usize) -> Names
     ensures { λ r. ⌜ namesIs r ≡ R.readPort (now (s .entry)) at left ⌝ }
 {
     if left == 0 {
-        return Names::Are(0, Port::Unset, at);
+        return Names::Are {
+            count: 0,
+            port: Port::Unset,
+            next: at,
+        };
     }
     match cbor::item_at(s, at, only_number()) {
-        Item::Number(n, next) => port_body(s, at, left - 1, 0, n, next),
+        Item::Number { value: n, next } => port_body(s, at, left - 1, 0, n, next),
         Item::Refused(n) => Names::Refused(n, at),
-        _ => Names::Refused(2, at),
+        _ => Names::Refused(FORM, at),
     }
 }
 
-// A label after so many others, whose head has been read; a ninth is over the limit.
+// A label after `count` others, whose head has been read; a ninth is over the limit.
 fn label_body(s: &[u8], count: usize, n: u64, next: usize) -> Step
     requires { ⌜ next ≤ length (now s) ⌝ }
     ensures { λ r. ⌜ ((at : ℕ) → stepIs at r ≡ R.labelBody count (now (s .entry)) at (record { kind = Text; value = n; next = next })) ⌝ }
 {
-    if 8 <= count {
-        return Step::Refused(4);
+    if LABELS <= count {
+        return Step::Refused(LIMIT);
     }
-    texts::text_body(s, n, next, Sort::Label)
+    texts::text_body(s, next, n, Sort::Label)
 }
 
-// After so many labels: a label, a port, or nothing, to the end.
+// After `count` labels: a label, a port, or nothing, to the end of the `items` items.
 fn names_at(s: &[u8], at: usize, items: usize, count: usize) -> Names
     requires { ⌜ count + items ≤ 9 ⌝ }
     ensures { λ r. ⌜ namesIs r ≡ R.readNames (now (s .entry)) at items count ⌝ }
@@ -398,7 +449,7 @@ fn names_at(s: &[u8], at: usize, items: usize, count: usize) -> Names
     let mut seen = count;
     while 0 < left {
         match cbor::item_at(s, here, text_or_number()) {
-            Item::Text(n, next) => match label_body(s, seen, n, next) {
+            Item::Text { length: n, next } => match label_body(s, seen, n, next) {
                 Step::Refused(k) => return Names::Refused(k, here),
                 Step::Next(end) => {
                     here = end;
@@ -406,15 +457,19 @@ fn names_at(s: &[u8], at: usize, items: usize, count: usize) -> Names
                     seen += 1;
                 }
             },
-            Item::Number(n, next) => return port_body(s, here, left - 1, seen, n, next),
+            Item::Number { value: n, next } => return port_body(s, here, left - 1, seen, n, next),
             Item::Refused(n) => return Names::Refused(n, here),
-            _ => return Names::Refused(2, here),
+            _ => return Names::Refused(FORM, here),
         }
     }
-    Names::Are(seen, Port::Unset, here)
+    Names::Are {
+        count: seen,
+        port: Port::Unset,
+        next: here,
+    }
 }
 
-// Whether an address may have so many bytes.
+// Whether an address may have n bytes.
 pub fn is_address_length(n: u64) -> bool
     ensures { λ r. ⌜ r ≡ (eqb n 4 || eqb n 16) ⌝ }
 {
@@ -430,17 +485,24 @@ fn address_host(s: &[u8], start: usize, at: usize, left: usize, n: u64, next: us
     ensures { λ r. ⌜ authorityIs r ≡ R.addressHost (now (s .entry)) start at left (record { kind = ByteString; value = n; next = next }) ⌝ }
 {
     if !is_address_length(n) {
-        return Authority::Refused(4, at);
+        return Authority::Refused(LIMIT, at);
     }
     let count = n as usize;
     if s.len() - next < count {
-        return Authority::Refused(1, at);
+        return Authority::Refused(CUT, at);
     }
     match port_at(s, next + count, left) {
         Names::Refused(k, place) => Authority::Refused(k, place),
-        Names::Are(_, port, end) => Authority::Is(AuthorityAt {
+        Names::Are {
+            count: _,
+            port,
+            next: end,
+        } => Authority::Is(AuthorityAt {
             at: start,
-            host: HostAt::Address(next, count),
+            host: HostAt::Address {
+                at: next,
+                length: count,
+            },
             port,
             next: end,
         }),
@@ -456,13 +518,17 @@ fn labels_host(s: &[u8], start: usize, at: usize, left: usize, n: u64, next: usi
         Step::Refused(k) => Authority::Refused(k, at),
         Step::Next(after) => match names_at(s, after, left, 1) {
             Names::Refused(k, place) => Authority::Refused(k, place),
-            Names::Are(count, port, end) => {
+            Names::Are {
+                count,
+                port,
+                next: end,
+            } => {
                 if !texts::name_rule(s, at, count) {
-                    return Authority::Refused(6, start);
+                    return Authority::Refused(RULE, start);
                 }
                 Authority::Is(AuthorityAt {
                     at: start,
-                    host: HostAt::Labels(at, count),
+                    host: HostAt::Labels { at, count },
                     port,
                     next: end,
                 })
@@ -471,16 +537,16 @@ fn labels_host(s: &[u8], start: usize, at: usize, left: usize, n: u64, next: usi
     }
 }
 
-// The host and port of an authority of so many items, the first of them at a position.
+// The host and port of an authority that starts at `start` and has `items` items, the first of them at `at`.
 fn host_at(s: &[u8], start: usize, at: usize, items: usize) -> Authority
     requires { ⌜ (1 ≤ items) × (items ≤ 9) ⌝ }
     ensures { λ r. ⌜ authorityIs r ≡ readHost (now (s .entry)) start at items ⌝ }
 {
     match cbor::item_at(s, at, address_or_label()) {
-        Item::ByteString(n, next) => address_host(s, start, at, items - 1, n, next),
-        Item::Text(n, next) => labels_host(s, start, at, items - 1, n, next),
+        Item::ByteString { length: n, next } => address_host(s, start, at, items - 1, n, next),
+        Item::Text { length: n, next } => labels_host(s, start, at, items - 1, n, next),
         Item::Refused(n) => Authority::Refused(n, at),
-        _ => Authority::Refused(2, at),
+        _ => Authority::Refused(FORM, at),
     }
 }
 
@@ -489,12 +555,12 @@ fn authority_at(s: &[u8], at: usize) -> Authority
 {
     match array_head(s, at) {
         Head::Refused(n) => Authority::Refused(n, at),
-        Head::Is(items, next) => {
+        Head::Is { value: items, next } => {
             if items < 1 {
-                return Authority::Refused(4, at);
+                return Authority::Refused(LIMIT, at);
             }
-            if 9 < items {
-                return Authority::Refused(4, at);
+            if AUTHORITY_ITEMS < items {
+                return Authority::Refused(LIMIT, at);
             }
             host_at(s, at, next, items as usize)
         }
@@ -503,27 +569,22 @@ fn authority_at(s: &[u8], at: usize) -> Authority
 
 // ---- opening
 
-fn known_scheme(n: u64) -> bool
-    ensures { λ r. ⌜ r ≡ knownScheme n ⌝ }
-{
-    match n {
-        0 | 1 | 6 | 7 | 8 | 9 => true,
-        _ => false,
-    }
-}
-
 // A scheme needs a second item, the authority.
 fn after_scheme(s: &[u8], at: usize, count: usize, scheme: SchemeAt, next: usize) -> Opened
     ensures { λ r. ⌜ openedIs r ≡ R.afterScheme (now (s .entry)) at count (schemeOf scheme) next ⌝ }
 {
     if count < 2 {
-        return Opened::Refused(2, at);
+        return Opened::Refused(FORM, at);
     }
     match authority_at(s, next) {
         Authority::Refused(k, place) => Opened::Refused(k, place),
         Authority::Is(authority) => {
             let end = authority.next;
-            Opened::Is(OpeningAt::Full(scheme, authority), end, count - 2)
+            Opened::Is {
+                opening: OpeningAt::Full(scheme, authority),
+                next: end,
+                left: count - 2,
+            }
         }
     }
 }
@@ -538,30 +599,36 @@ fn lone_zero(count: usize, n: u64) -> bool
     n == 0
 }
 
-// A discard, the first of so many items.
+// A discard, the first of `count` items.
 fn discard_body(count: usize, n: u64, next: usize) -> First
     ensures { λ r. ⌜ ((bs : Bytes) (at : ℕ) → firstIs bs at count r ≡ R.openingBody bs at count (record { kind = Number; value = n; next = next }) Number) ⌝ }
 {
-    if 127 < n {
-        return First::Refused(4);
+    if DISCARD < n {
+        return First::Refused(LIMIT);
     }
-    if 4 < count {
-        return First::Refused(2);
+    if DISCARD_ITEMS < count {
+        return First::Refused(FORM);
     }
     if lone_zero(count, n) {
-        return First::Refused(2);
+        return First::Refused(FORM);
     }
-    First::Discard(OpeningAt::Discard(n), next)
+    First::Discard {
+        opening: OpeningAt::Discard(n),
+        next,
+    }
 }
 
-// True, the first of so many items.
+// True, the first of `count` items.
 fn discard_all_body(count: usize, next: usize) -> First
     ensures { λ r. ⌜ ((bs : Bytes) (at : ℕ) → firstIs bs at count r ≡ R.openingBody bs at count (record { kind = True; value = 21; next = next }) True) ⌝ }
 {
-    if 4 < count {
-        return First::Refused(2);
+    if DISCARD_ITEMS < count {
+        return First::Refused(FORM);
     }
-    First::Discard(OpeningAt::DiscardAll, next)
+    First::Discard {
+        opening: OpeningAt::DiscardAll,
+        next,
+    }
 }
 
 // A scheme's name, whose head has been read.
@@ -569,48 +636,76 @@ fn name_body(s: &[u8], n: u64, next: usize) -> First
     requires { ⌜ next ≤ length (now s) ⌝ }
     ensures { λ r. ⌜ ((at count : ℕ) → firstIs (now (s .entry)) at count r ≡ R.openingBody (now (s .entry)) at count (record { kind = Text; value = n; next = next }) Text) ⌝ }
 {
-    match texts::text_body(s, n, next, Sort::SchemeName) {
+    match texts::text_body(s, next, n, Sort::SchemeName) {
         Step::Refused(k) => First::Refused(k),
-        Step::Next(end) => First::Scheme(SchemeAt::Name(next, n as usize), end),
+        Step::Next(end) => First::Scheme {
+            scheme: SchemeAt::Name {
+                at: next,
+                length: n as usize,
+            },
+            next: end,
+        },
     }
 }
 
-// A scheme's number, whose head has been read.
+// A scheme's number, whose head has been read: its id is -1 - n.
 fn number_body(n: u64, next: usize) -> First
     ensures { λ r. ⌜ ((bs : Bytes) (at count : ℕ) → firstIs bs at count r ≡ R.openingBody bs at count (record { kind = Negative; value = n; next = next }) Negative) ⌝ }
 {
-    if !known_scheme(n) {
-        return First::Refused(6);
+    match scheme_id(n) {
+        SchemeId::TooLarge => First::Refused(RULE),
+        SchemeId::Is(id) => {
+            if !schemes::is_known(id) {
+                return First::Refused(RULE);
+            }
+            match scheme_number(id) {
+                SchemeNumber::Is(number) => First::Scheme {
+                    scheme: SchemeAt::Number(number),
+                    next,
+                },
+                SchemeNumber::NotNegative => First::Refused(RULE),
+            }
+        }
     }
-    First::Scheme(SchemeAt::Number(n), next)
 }
 
-// The first of so many items.
+// The first of `count` items.
 fn first_at(s: &[u8], at: usize, count: usize) -> First
     requires { ⌜ 0 < count ⌝ }
     ensures { λ r. ⌜ firstIs (now (s .entry)) at count r ≡ R.readOpening (now (s .entry)) at count ⌝ }
 {
     match cbor::item_at(s, at, may_open()) {
-        Item::Number(n, next) => discard_body(count, n, next),
+        Item::Number { value: n, next } => discard_body(count, n, next),
         Item::True(next) => discard_all_body(count, next),
-        Item::Negative(n, next) => number_body(n, next),
-        Item::Text(n, next) => name_body(s, n, next),
-        Item::Null(next) => First::Scheme(SchemeAt::Unset, next),
+        Item::Negative { value: n, next } => number_body(n, next),
+        Item::Text { length: n, next } => name_body(s, n, next),
+        Item::Null(next) => First::Scheme {
+            scheme: SchemeAt::Unset,
+            next,
+        },
         Item::Refused(n) => First::Refused(n),
-        _ => First::Refused(2),
+        _ => First::Refused(FORM),
     }
 }
 
-// The opening, at the head of so many items.
+// The opening, at the head of `count` items.
 fn opening_at(s: &[u8], at: usize, count: usize) -> Opened
     ensures { λ r. ⌜ openedIs r ≡ R.readOpening (now (s .entry)) at count ⌝ }
 {
     if count == 0 {
-        return Opened::Is(OpeningAt::Discard(0), at, 0);
+        return Opened::Is {
+            opening: OpeningAt::Discard(0),
+            next: at,
+            left: 0,
+        };
     }
     match first_at(s, at, count) {
-        First::Discard(opening, next) => Opened::Is(opening, next, count - 1),
-        First::Scheme(scheme, next) => after_scheme(s, at, count, scheme, next),
+        First::Discard { opening, next } => Opened::Is {
+            opening,
+            next,
+            left: count - 1,
+        },
+        First::Scheme { scheme, next } => after_scheme(s, at, count, scheme, next),
         First::Refused(n) => Opened::Refused(n, at),
     }
 }
@@ -632,24 +727,40 @@ fn finish(s: &[u8], found: Found, next: usize) -> Answer
     ensures { λ r. ⌜ answerIs r ≡ readEnd (now (s .entry)) (foundOf found) next ⌝ }
 {
     if next < s.len() {
-        return Answer::Refused(7, next);
+        return Answer::Refused(TAIL, next);
     }
     Answer::Is(found)
 }
 
-// Path, query and fragment, of which so many items are left, and the end.
+// Path, query and fragment, of which `left` items are left, and the end.
 fn rest_at(s: &[u8], opening: OpeningAt, at: usize, left: usize) -> Answer
     ensures { λ r. ⌜ answerIs r ≡ readRest limits (now (s .entry)) (openingOf opening) at left ⌝ }
 {
-    match array_at(s, at, left, Sort::Segment, 0, 32) {
+    match array_at(s, at, left, Sort::Segment, 0, SEGMENTS as u64) {
         SlotAt::Refused(k, place) => Answer::Refused(k, place),
-        SlotAt::Is(path, after_path) => {
-            match array_at(s, after_path, minus(left, 1), Sort::Parameter, 1, 16) {
+        SlotAt::Is {
+            slot: path,
+            next: after_path,
+        } => {
+            match array_at(
+                s,
+                after_path,
+                minus(left, 1),
+                Sort::Parameter,
+                1,
+                PARAMETERS as u64,
+            ) {
                 SlotAt::Refused(k, place) => Answer::Refused(k, place),
-                SlotAt::Is(query, after_query) => {
+                SlotAt::Is {
+                    slot: query,
+                    next: after_query,
+                } => {
                     match fragment_at(s, after_query, minus(left, 2)) {
                         SlotAt::Refused(k, place) => Answer::Refused(k, place),
-                        SlotAt::Is(fragment, end) => finish(
+                        SlotAt::Is {
+                            slot: fragment,
+                            next: end,
+                        } => finish(
                             s,
                             Found {
                                 opening,
@@ -666,13 +777,17 @@ fn rest_at(s: &[u8], opening: OpeningAt, at: usize, left: usize) -> Answer
     }
 }
 
-// The items of the outer array, so many.
+// The `count` items of the outer array.
 fn items_at(s: &[u8], at: usize, count: usize) -> Answer
     ensures { λ r. ⌜ answerIs r ≡ readItems limits (now (s .entry)) at count ⌝ }
 {
     match opening_at(s, at, count) {
         Opened::Refused(k, place) => Answer::Refused(k, place),
-        Opened::Is(opening, next, left) => rest_at(s, opening, next, left),
+        Opened::Is {
+            opening,
+            next,
+            left,
+        } => rest_at(s, opening, next, left),
     }
 }
 
@@ -680,14 +795,14 @@ fn items_at(s: &[u8], at: usize, count: usize) -> Answer
 pub fn read(s: &[u8]) -> Answer
     ensures { λ r. ⌜ answerIs r ≡ R.read limits (now (s .entry)) ⌝ }
 {
-    if 1024 < s.len() {
-        return Answer::Refused(4, 1024);
+    if BYTES < s.len() {
+        return Answer::Refused(LIMIT, BYTES);
     }
     match array_head(s, 0) {
         Head::Refused(n) => Answer::Refused(n, 0),
-        Head::Is(count, next) => {
-            if 5 < count {
-                return Answer::Refused(2, 0);
+        Head::Is { value: count, next } => {
+            if ITEMS < count {
+                return Answer::Refused(FORM, 0);
             }
             items_at(s, next, count as usize)
         }

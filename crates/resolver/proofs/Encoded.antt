@@ -22,13 +22,13 @@ use Rattle.rules.proofs.Steps.{ok-at, refused-ok}
 use Rattle.rules.proofs.Resolving.{resolved-is}
 use Rattle.rules.proofs.Laid.{head-length, head-one}
 use Rattle.absolutes.specs.Bases.{isAbsolute, readBase}
-use Rattle.absolutes.proofs.Openings.{absolute-opening, relative-opening, base-read}
+use Rattle.absolutes.proofs.AbsoluteOpenings.{absolute-opening, relative-opening, base-read}
 use Rattle.cbor.specs.Heads.{spanIs}
-use Rattle.resolved_parts.specs.declared.Both.{Both}
-use Rattle.resolved_parts.specs.declared.Parts.{Parts}
-use Rattle.resolved_parts.specs.Parts.{bothOf, BothInside, furtherItems, PartsAre}
+use Rattle.resolver_parts.specs.declared.Both.{Both}
+use Rattle.resolver_parts.specs.declared.Parts.{Parts}
+use Rattle.resolver_parts.specs.Parts.{bothOf, BothInside, furtherItems, PartsAre}
 use Rattle.resolver.specs.Written.{BothSmall, pathHead, pathItems, PartsInside, PartsSmall, partsOf, partsRuling}
-use Rattle.resolver.proofs.Items.{tail-bytes, tail-count, items-most}
+use Rattle.resolver.proofs.ResultItems.{tail-bytes, tail-count, items-most}
 
 -- ---- its encoding
 
@@ -112,24 +112,24 @@ module _ (base ref : Bytes) (p : Parts) where
 
   pub over-segments : limits .segments < p .path .count → partsRuling base ref p ≡ refuse RESULT
   unfolding partsRuling
-  over-segments h = rw (lt-leb (p .path .count) 32 h)
+  over-segments h = rw (lt-leb (p .path .count) (limits .segments) h)
 
   pub over-bytes : limits .bytes < length (partsOf base ref p) → partsRuling base ref p ≡ refuse RESULT
   unfolding partsRuling
   over-bytes h =
-      rw (lt-leb (length (partsOf base ref p)) 1024 h)
-      (by-test (λ (t : Bool). cond (t && false) (write (partsOf base ref p)) (refuse RESULT) ≡ refuse RESULT) (leb (p .path .count) 32) (λ _. refl) (λ _. refl))
+      rw (lt-leb (length (partsOf base ref p)) (limits .bytes) h)
+      (by-test (λ (t : Bool). cond (t && false) (write (partsOf base ref p)) (refuse RESULT) ≡ refuse RESULT) (leb (p .path .count) (limits .segments)) (λ _. refl) (λ _. refl))
 
   pub within-both : p .path .count ≤ limits .segments → length (partsOf base ref p) ≤ limits .bytes → partsRuling base ref p ≡ write (partsOf base ref p)
   unfolding partsRuling
-  within-both h k = rw (le-leb (p .path .count) 32 h, le-leb (length (partsOf base ref p)) 1024 k)
+  within-both h k = rw (le-leb (p .path .count) (limits .segments) h, le-leb (length (partsOf base ref p)) (limits .bytes) k)
 
 -- parts of inputs that were accepted are small and inside
 
 pub parts-inside : (base ref : Bytes) (p : Parts) (c : Cri) → PartsAre base ref p c → PartsInside base ref p
 parts-inside base ref p c h = record { front = h .front .inside; path = h .path .both .inside; tail = h .tail .both .inside }
 
-both-small : (base ref : Bytes) (b : Both) → length base ≤ 1024 → length ref ≤ 1024 → BothInside base ref b → BothSmall b
+both-small : (base ref : Bytes) (b : Both) → length base ≤ limits .bytes → length ref ≤ limits .bytes → BothInside base ref b → BothSmall b
 both-small base ref b h k i = record { ofBase = omega (arith, i .ofBase); ofReference = omega (arith, i .ofReference) }
 
 further-most : (q : Option (List Bytes)) (f : Option Bytes) → furtherItems q f ≤ 2
@@ -137,7 +137,7 @@ further-most q (some f) = omega arith
 further-most (some q) none = omega arith
 further-most none none = omega arith
 
-pub parts-small : (base ref : Bytes) (p : Parts) (c : Cri) → length base ≤ 1024 → length ref ≤ 1024 → PartsAre base ref p c → PartsSmall p
+pub parts-small : (base ref : Bytes) (p : Parts) (c : Cri) → length base ≤ limits .bytes → length ref ≤ limits .bytes → PartsAre base ref p c → PartsSmall p
 parts-small base ref p c h k a =
     let small : (b : Both) → BothInside base ref b → BothSmall b = λ b. both-small base ref b h k in
     record {

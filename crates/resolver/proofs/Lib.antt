@@ -1,2 +1,2 @@
 mod Encoded
-mod Items
+mod ResultItems

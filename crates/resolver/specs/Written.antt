@@ -10,17 +10,17 @@ use Rattle.rules.specs.Model.{limits}
 use Rattle.rules.specs.Head.{headBytes, Array}
 use Rattle.rules.specs.Encode.{nullItem}
 use Rattle.rules.specs.Calls.{Ruling, refuse, write}
-use Rattle.resolved_parts.specs.declared.Both.{Both}
-use Rattle.resolved_parts.specs.declared.Parts.{Parts}
-use Rattle.resolved_parts.specs.Parts.{bothOf, BothInside}
+use Rattle.resolver_parts.specs.declared.Both.{Both}
+use Rattle.resolver_parts.specs.declared.Parts.{Parts}
+use Rattle.resolver_parts.specs.Parts.{bothOf, BothInside}
 
--- what stands before the segments of a path, where so many items follow: the array's head; null for no path; nothing where nothing follows
+-- what stands before the segments of a path, where `further` items follow: the array's head; null for no path; nothing where nothing follows
 unfoldable pub pathHead : ℕ → ℕ → Bytes
 pathHead (suc n) further = headBytes Array (suc n)
 pathHead zero (suc k) = nullItem
 pathHead zero zero = []
 
--- how many items a path is, before so many
+-- how many items a path is, before `further` others
 unfoldable pub pathItems : ℕ → ℕ → ℕ
 pathItems (suc n) further = 1
 pathItems zero (suc k) = 1
@@ -52,7 +52,7 @@ partsOf base ref p =
     ++ (pathHead (p .path .count) (p .tail .count)
     ++ (bothOf base ref (p .path .texts) ++ bothOf base ref (p .tail .items))))
 
--- RULES 5.5: 9 over 32 segments or 1,024 bytes
+-- RULES 5.5: 9 where there are too many segments or bytes
 unfoldable pub partsRuling : Bytes → Bytes → Parts → Ruling
 partsRuling base ref p =
     cond (leb (p .path .count) (limits .segments) && leb (length (partsOf base ref p)) (limits .bytes)) (write (partsOf base ref p)) (refuse RESULT)

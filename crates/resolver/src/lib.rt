@@ -6,23 +6,23 @@ ghost use Rattle.rules.specs.Bytes.{Bytes};
 ghost use Rattle.rules.specs.Model.{limits};
 ghost use Rattle.rules.specs.Calls.{outcome, after, resolveCall};
 ghost use Rattle.put.specs.Wrote.{Wrote};
-ghost use Rattle.outcomes.specs.Answer.{doneIs};
-ghost use Rattle.resolved_parts.specs.Parts.{bothOf, BothInside};
+ghost use Rattle.outcomes.specs.Answers.{doneIs};
+ghost use Rattle.resolver_parts.specs.Parts.{bothOf, BothInside};
 ghost use Rattle.resolver.specs.Written.{BothSmall, pathHead, pathItems, PartsInside, PartsSmall, partsOf, partsRuling};
 use cbor::Kind;
-use heads::head_length;
-use heads::put_head;
+use cbor_heads::head_length;
+use cbor_heads::put_head;
+use numbers::BYTES;
+use numbers::DONE;
+use numbers::RESULT;
+use numbers::ROOM;
+use numbers::SEGMENTS;
 use outcomes::Done;
 use put::put_part;
 use reader::Answer;
-use resolved_parts::Both;
-use resolved_parts::Parts;
-use resolved_parts::parts_of;
-
-// The largest result, and how many segments its path may have.
-const MOST: usize = 1024;
-
-const SEGMENTS: usize = 32;
+use resolver_parts::Both;
+use resolver_parts::Parts;
+use resolver_parts::parts_of;
 
 fn both_length(b: Both) -> usize
     requires { ⌜ BothSmall b ⌝ }
@@ -31,7 +31,7 @@ fn both_length(b: Both) -> usize
     b.base.length + b.reference.length
 }
 
-// How many items a path of so many segments is, before so many further items.
+// How many items the path is: one where it has segments or `further` items follow it, else none.
 fn path_items(segments: usize, further: usize) -> usize
     ensures { λ r. ⌜ r ≡ pathItems segments further ⌝ }
 {
@@ -119,17 +119,17 @@ fn put_result(base: &[u8], reference: &[u8], p: Parts, room: &mut [u8]) -> Done
 {
     let path = p.path;
     if SEGMENTS < path.count {
-        return outcomes::refused(9);
+        return outcomes::refused(RESULT);
     }
     let n = parts_length(p);
-    if MOST < n {
-        return outcomes::refused(9);
+    if BYTES < n {
+        return outcomes::refused(RESULT);
     }
     if room.len() < n {
-        return outcomes::refused(10);
+        return outcomes::refused(ROOM);
     }
     Done {
-        number: 0,
+        number: DONE,
         length: put_parts(room, base, reference, p),
     }
 }

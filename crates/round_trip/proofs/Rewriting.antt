@@ -10,12 +10,12 @@ use Rattle.rules.specs.Writing.{readCall}
 use Rattle.rules.specs.Calls.{refuse, writeCall}
 use Rattle.rules.proofs.Steps.{ok-at}
 use Rattle.rules.proofs.Standing.{stands, all-counted}
-use Rattle.rules.proofs.Numbers.{call-accepted, call-refused, accepted}
+use Rattle.rules.proofs.RefusalNumbers.{call-accepted, call-refused, accepted}
 use Rattle.rules.proofs.RoundTrips.{read-write}
 use Rattle.components.specs.declared.Reading.{Reading}
 use Rattle.components.specs.Content.{componentsOf}
 use Rattle.components.specs.Layout.{componentsLaid, readingLaid}
-use Rattle.components.proofs.Contents.{components-said}
+use Rattle.components.proofs.Content.{components-said}
 use Rattle.round_trip.specs.Again.{again}
 
 -- of what reading answers

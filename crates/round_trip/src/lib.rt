@@ -3,9 +3,10 @@ ghost use mathlib.Core.Path.{_≡_};
 ghost use lib.ListN.{length};
 ghost use Rattle.rules.specs.Model.{limits};
 ghost use Rattle.rules.specs.Calls.{outcome, after};
-ghost use Rattle.outcomes.specs.Answer.{doneIs};
+ghost use Rattle.outcomes.specs.Answers.{doneIs};
 ghost use Rattle.round_trip.specs.Again.{again};
 use cri::Done;
+use numbers::DONE;
 
 // Reads s, and writes the components that reading reports, with s as the lent bytes, into the room: the number that reading has for s;
 // or s again, every byte of it; 10 where the room is shorter than s.
@@ -14,7 +15,7 @@ pub fn rewrite(s: &[u8], room: &mut [u8]) -> Done
     ensures { λ _. ⌜ now (room .exit) ≡ after (again limits (now (s .entry))) (now (room .entry)) ⌝ }
 {
     let reading = cri::read(s);
-    if reading.number != 0 {
+    if reading.number != DONE {
         return outcomes::refused(reading.number);
     }
     let components = reading.components;

@@ -14,27 +14,18 @@ use Rattle.rules.specs.Result.{ok, need, _>>=_, _>>_, if_then_else_}
 use Rattle.rules.specs.Model.{Host, address, labels, Authority}
 use Rattle.rules.specs.Head.{Kind, Number, ByteString, Text, Array, codeOf, is, Head, kindAt, headAt, readHead, headBytes}
 use Rattle.rules.specs.Rules.{label, nameRule}
-use Rattle.rules.specs.Reader.{endAt, spans, taken, contents, HostAt, addressAt, labelsAt, AuthorityAt, Names, readNothing, portBody, readPort, labelBody, readNames, addressHost, labelsHost, readAuthority}
+use Rattle.rules.specs.Reader.{endAt, spans, contents, labelsAt, AuthorityAt, Names, readNothing, portBody, readPort, labelBody, readNames, addressHost, labelsHost, readAuthority, contentAt}
+use Rattle.rules.specs.Meaning.{saidHost, saidAuthority}
 use Rattle.rules.specs.Encode.{textItem, arrayItem, portItems, hostItems, authorityItem}
-use Rattle.rules.specs.Valid.{If, Good, GoodAddress, GoodLabels, GoodHost, GoodAuthority}
+use Rattle.rules.specs.Valid.{If, Good, GoodAddress, GoodLabels, GoodHost, GoodAuthority, GoodPort}
+use Rattle.rules.specs.Standing.{RowAt}
 use Rattle.rules.proofs.Tools.{tests, never, by-test, each-map, or-left, or-right, within-low, within-high, is-within, length-part, octets-part}
 use Rattle.rules.proofs.Steps.{Ok, ok!, ok-bind, ok-map, ok-if, ok-need, Yes, yes!, yes-bind, yes-map, yes-then, yes-else, yes-need, yes-ok, Stable, same!, stable-bind, stable-bind-ok, stable-if, stable-need}
 use Rattle.rules.proofs.Heads.{is-kind, Stands, ok-head, yes-head, head-spells, next-inside, Spelled, spelled, head-stable, head-ok}
-use Rattle.rules.proofs.Texts.{contentAt, TextAt, ok-textBody, TextWas, FitText, good-64, yes-textBody, spelled-text, textBody-stable, ok-content, yes-content, content-stable, item-spells, item-was, Items, length-contents, contents-more}
+use Rattle.rules.proofs.Texts.{TextAt, ok-textBody, TextWas, FitText, good-64, yes-textBody, spelled-text, textBody-stable, ok-content, yes-content, content-stable, item-spells, item-was, length-contents, contents-more}
 use Rattle.rules.proofs.Slots.{item-one}
 
--- what positions say
-abbrev pub saidHost : Bytes → HostAt → Host Bytes
-saidHost bs (addressAt at n) = address (taken bs (record { start = at; length = n }))
-saidHost bs (labelsAt at n) = labels (contents bs at n)
-
-abbrev pub saidAuthority : Bytes → AuthorityAt → Authority Bytes
-saidAuthority bs a = record { host = saidHost bs (a .host); port = a .port }
-
 -- ---- an authority that is accepted
-
-abbrev pub GoodPort : Option ℕ → Type 0
-GoodPort = If (λ p. p ≤ 65535)
 
 pub cons-spells : (x : Bytes) (xs : List Bytes) (l m r : Bytes) → l ≡ x ++ m → m ≡ concat xs ++ r → l ≡ concat (x ∷ xs) ++ r
 unfolding concat
@@ -78,7 +69,7 @@ pub ok-labelBody : {allowed : Kind → Bool} (n : ℕ) (bs : Bytes) (at : ℕ) �
 unfolding labelBody
 ok-labelBody n bs at sm r e = ok-need _ _ _ _ (λ w. ok-map (ok-textBody label bs at sm r e) (λ next t. (ltb-true _ _ w, t)))
 
--- after n labels, and where `left` items are left: so many more labels, and the port
+-- after n labels, and where `left` items are left: the labels that follow, and the port
 pub record NamesAt (bs : Bytes) (at left n : ℕ) (r : Names) : Type 0 where
   pub more : ℕ
   pub count : r .count ≡ n + more
@@ -87,7 +78,7 @@ pub record NamesAt (bs : Bytes) (at left n : ℕ) (r : Names) : Type 0 where
   pub most : n ≤ 8 → r .count ≤ 8
   pub good : Each (Good label) (contents bs at more)
   pub port : GoodPort (r .port)
-  pub stand : Items bs at more
+  pub stand : RowAt bs at more
   pub inside : at ≤ length bs → r .next ≤ length bs
   pub stay : (q : Bytes) → contents (bs ++ q) at more ≡ contents bs at more
 
@@ -114,10 +105,10 @@ ok-names bs at (suc left) n sm =
     record { more = 0; count = omega (arith, p .0); spells = p .1 .spells; items = omega (arith, p .1 .items); most = λ h. omega (arith, p .0); good = tt; port = p .1 .good; stand = tt; inside = p .1 .inside; stay = λ q. refl })))
 
 -- the first label and those after it stand one after the other
-pub labels-run : (bs : Bytes) (at mid left : ℕ) (r : Names) → TextAt label bs at mid → NamesAt bs mid left 1 r → Items bs at (r .count)
-labels-run bs at mid left r t q =
+pub labels-row : (bs : Bytes) (at mid left : ℕ) (r : Names) → TextAt label bs at mid → NamesAt bs mid left 1 r → RowAt bs at (r .count)
+labels-row bs at mid left r t q =
     let c : suc (q .more) ≡ r .count = omega (arith, q .count) in
-    subst (Items bs at) c (t .stands, subst (λ (m : ℕ). Items bs m (q .more)) (t .ends) (q .stand))
+    subst (RowAt bs at) c (t .stands, subst (λ (m : ℕ). RowAt bs m (q .more)) (t .ends) (q .stand))
 
 -- the items of the authority, of which `left` stand after the first
 pub record InsideAt (bs : Bytes) (at left : ℕ) (a : AuthorityAt) : Type 0 where

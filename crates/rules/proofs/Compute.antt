@@ -6,7 +6,7 @@ use Rattle.rules.specs.Model.{absolute, reference, normalPath, normal}
 use Rattle.rules.specs.Utf8.{leadOf, leadFrom, utf8From, utf8}
 use Rattle.rules.specs.Head.{codeOf, kindOf, width, shortest, headAt, readHead, majorOf, headBytes}
 use Rattle.rules.specs.Rules.{schemes, schemeIn, knownScheme, schemeByte, startsLower, schemeRule, labelByte, labelRule, octet, looksIPv4, nameRule, segmentRule}
-use Rattle.rules.specs.Reader.{readContent, textBody, readText, readTexts, spans, contents, nullBody, arrayBody, readArray, fragmentBody, readFragment, readNothing, portBody, readPort, labelBody, readNames, addressHost, labelsHost, readAuthority, afterScheme, openingBody, readOpening, read}
+use Rattle.rules.specs.Reader.{readContent, textBody, readText, readRow, spans, contents, nullBody, arrayBody, readArray, fragmentBody, readFragment, readNothing, portBody, readPort, labelBody, readNames, addressHost, labelsHost, readAuthority, afterScheme, openingBody, readOpening, read}
 use Rattle.rules.specs.Meaning.{components, meaning, readReference, readAbsolute}
 use Rattle.rules.specs.Encode.{textItem, arrayItem, textsItem, orNull, tailItems, portItems, hostItems, authorityItem, schemeItem, discardAlone, withOpening, encode}
 use Rattle.rules.specs.Resolve.{start, discarded, appended, copied, resolve, fits, resolved}
@@ -19,5 +19,5 @@ use Rattle.rules.specs.Calls.{outcome, after, resolveCall, printed, text
 use Rattle.rules.specs.Views.{segmentView, authorityView}
 
 unfoldable pub computed : Unit {0}
-unfolding bind hexValue numberFrom bigEndian all any concat join _>>=_ _>>_ need given if_then_else_ absolute reference normalPath normal leadOf leadFrom utf8From utf8 codeOf kindOf width shortest headAt readHead majorOf headBytes schemes schemeIn knownScheme schemeByte startsLower schemeRule labelByte labelRule octet looksIPv4 nameRule segmentRule readContent textBody readText readTexts spans contents nullBody arrayBody readArray fragmentBody readFragment readNothing portBody readPort labelBody readNames addressHost labelsHost readAuthority afterScheme openingBody readOpening read components meaning readReference readAbsolute textItem arrayItem textsItem orNull tailItems portItems hostItems authorityItem schemeItem discardAlone withOpening encode start discarded appended copied resolve fits resolved digitByte numeral decimal ipv4Text groups zerosAhead runHere runLater longer longest hexGroups ipv6Text addressText bare hexDigit escapeByte escape marked schemeText hostText authorityText pathText queryText hierarchyText uriText uriHost portBytes uriPort options nibble extension optionBytes optionsFrom oneByteMore twoBytesMore extended optionAt readOption readOptionsFrom readOptions counted inside written readCall outcome after resolveCall printed textCall requested optionsCall writeCall segmentView authorityView
+unfolding bind hexValue numberFrom bigEndian all any concat join _>>=_ _>>_ need given if_then_else_ absolute reference normalPath normal leadOf leadFrom utf8From utf8 codeOf kindOf width shortest headAt readHead majorOf headBytes schemes schemeIn knownScheme schemeByte startsLower schemeRule labelByte labelRule octet looksIPv4 nameRule segmentRule readContent textBody readText readRow spans contents nullBody arrayBody readArray fragmentBody readFragment readNothing portBody readPort labelBody readNames addressHost labelsHost readAuthority afterScheme openingBody readOpening read components meaning readReference readAbsolute textItem arrayItem textsItem orNull tailItems portItems hostItems authorityItem schemeItem discardAlone withOpening encode start discarded appended copied resolve fits resolved digitByte numeral decimal ipv4Text groups zerosAhead runHere runLater longer longest hexGroups ipv6Text addressText bare hexDigit escapeByte escape marked schemeText hostText authorityText pathText queryText hierarchyText uriText uriHost portBytes uriPort options nibble extension optionBytes optionsFrom oneByteMore twoBytesMore extended optionAt readOption readOptionsFrom readOptions counted inside written readCall outcome after resolveCall printed textCall requested optionsCall writeCall segmentView authorityView
 computed = tt

@@ -3,35 +3,32 @@ use Prim.Native.Nat.{ℕ, zero, suc, _+_, _-_, _≤_, _<_}
 use native.Mathlib.Omega.{arith}
 use mathlib.Core.Path.{_≡_, refl, sym, ap, _∙_, subst}
 use mathlib.Core.Bool.{Bool, true, not}
-use mathlib.Core.List.{List, [], _++_, append-assoc, map}
-use mathlib.Core.Option.{Option, none, some}
+use mathlib.Core.List.{List, [], _++_, append-assoc}
+use mathlib.Core.Option.{none}
 use lib.ListN.{length, drop, length-drop, length-append, length-map}
 use lib.Dec.{eqb}
 use borrow.Author.Tests.{leb-true, lt-ltb}
 use Rattle.rules.specs.Bytes.{Bytes, Octets, part, concat, bigEndian}
 use Rattle.rules.specs.Result.{Res}
 use Rattle.rules.specs.Model.{Limits}
-use Rattle.rules.specs.Head.{Kind, Number, Negative, ByteString, Text, Array, True, Null, Other, Head, kindAt, headAt, headBytes, shortest, width}
+use Rattle.rules.specs.Head.{Kind, Number, Negative, ByteString, Text, Array, True, Null, Other, Head, kindAt, headAt, headBytes, shortest, width, headLength}
 use Rattle.rules.specs.Rules.{Sort, segment, parameter, fragmentText, schemeName}
-use Rattle.rules.specs.Reader.{endAt, contents, readTexts, Slot, unset, set, nullBody, arrayBody, readArray, fragmentBody, readFragment, AuthorityAt, addressHost, labelsHost, readAuthority, SchemeAt, OpeningAt, discardAt, discardAllAt, fullAt, opens, afterScheme, openingBody, readOpening, Found, read}
-use Rattle.rules.specs.Encode.{textItem, arrayItem, textsItem, nullItem, orNull, authorityItem, schemeItem}
+use Rattle.rules.specs.Reader.{endAt, contents, readRow, Slot, unset, set, nullBody, arrayBody, readArray, fragmentBody, readFragment, addressHost, labelsHost, readAuthority, SchemeAt, OpeningAt, discardAt, discardAllAt, fullAt, opens, afterScheme, openingBody, readOpening, read, contentAt}
+use Rattle.rules.specs.Meaning.{saidScheme, saidOpening}
+use Rattle.rules.specs.Encode.{textItem, arrayItem, textsItem, nullItem, orNull, schemeItem}
 use Rattle.rules.specs.Resolve.{asBase}
 use Rattle.rules.specs.Views.{Piece, ofReference, ofBase, authoritySpan, chosen, authorityView}
+use Rattle.rules.specs.Standing.{RowAt}
+use Rattle.rules.specs.Laid.{Between, texts, TextsLaid, tailStart, TailLaid, OpeningLaid, Ordered, PathLaid, Laid}
 use Rattle.rules.proofs.Tools.{never, or-left}
 use Rattle.rules.proofs.Steps.{Ok, no!, ok!, ok-any, ok-both, ok-bind, ok-then, ok-map, ok-need, ok-if}
 use Rattle.rules.proofs.Heads.{is-kind, Known, Stands, ok-head, head-spells, next-inside}
-use Rattle.rules.proofs.Texts.{Items, ItemStands, contentAt, TextAt, TextsAt, ok-textBody, ok-text, ok-texts, length-contents}
-use Rattle.rules.proofs.Slots.{saidTexts, saidText, null-spells}
-use Rattle.rules.proofs.Authorities.{saidAuthority, ok-authority}
-use Rattle.rules.proofs.Openings.{saidScheme, saidOpening, openItems, ok-opening, opens-left}
+use Rattle.rules.proofs.Texts.{TextAt, TextsAt, ok-textBody, ok-text, ok-texts, length-contents}
+use Rattle.rules.proofs.Slots.{null-spells}
+use Rattle.rules.proofs.Authorities.{ok-authority}
+use Rattle.rules.proofs.Openings.{openItems, ok-opening, opens-left}
 
 -- ---- bytes between two positions
-
--- from one position up to the other stand the bytes w
-pub record Between (bs : Bytes) (from to : ℕ) (w : Bytes) : Type 0 where
-  pub bytes : drop from bs ≡ w ++ drop to bs
-  pub ends : from + length w ≡ to
-  pub inside : to ≤ length bs
 
 pub between : {bs w : Bytes} {from to : ℕ} → from ≤ length bs → to ≤ length bs → drop from bs ≡ w ++ drop to bs → Between bs from to w
 between {bs} {w} {from} {to} h k e =
@@ -57,10 +54,6 @@ between-at {bs} {w} {i} {j} {i′} {j′} d e p = subst (λ (k : ℕ). Between b
 
 -- ---- heads
 
--- how long the shortest head of a number is, for every kind
-abbrev pub headLength : ℕ → ℕ
-headLength v = length (headBytes Text v)
-
 pub head-length : (k : Kind) (v : ℕ) → length (headBytes k v) ≡ headLength v
 unfolding headBytes
 head-length k v = refl
@@ -71,24 +64,12 @@ head-between bs at sm r k n e = between (omega (arith, r .inside)) (next-inside 
 
 -- ---- texts in a row
 
--- texts, one after the other, as they are written
-abbrev pub texts : List Bytes → Bytes
-texts ts = concat (map textItem ts)
-
-pub record TextLaid (bs : Bytes) (at : ℕ) : Type 0 where
-  pub stands : ItemStands bs at
-  pub bytes : Between bs at (endAt bs at) (textItem (contentAt bs at))
-
-abbrev pub TextsLaid : Bytes → ℕ → ℕ → Type 0
-TextsLaid bs at zero = Unit {0}
-TextsLaid bs at (suc n) = TextLaid bs at × TextsLaid bs (endAt bs at) n
-
-pub laid-items : (bs : Bytes) (at n : ℕ) → TextsLaid bs at n → Items bs at n
+pub laid-items : (bs : Bytes) (at n : ℕ) → TextsLaid bs at n → RowAt bs at n
 laid-items bs at zero h = tt
 laid-items bs at (suc n) h = (h .0 .stands, laid-items bs (endAt bs at) n (h .1))
 
-texts-laid : (s : Sort) (bs : Bytes) (at n : ℕ) → Octets bs → Ok (λ next. TextsLaid bs at n) (readTexts s bs at n)
-unfolding readTexts headAt
+texts-laid : (s : Sort) (bs : Bytes) (at n : ℕ) → Octets bs → Ok (λ next. TextsLaid bs at n) (readRow s bs at n)
+unfolding readRow headAt
 texts-laid s bs at zero sm = ok! tt
 texts-laid s bs at (suc n) sm =
     ok-bind _ _ (ok-text s bs at sm) (λ mid t. ok-map (texts-laid s bs mid n sm) (λ next r. (
@@ -175,40 +156,7 @@ fragment-laid bs at (suc left) sm =
 
 -- ---- query and fragment together
 
--- the query's item before a fragment: null where it is unset and something follows, and left off where nothing does
-abbrev pub queryItem : Option (List Bytes) → Option Bytes → Bytes
-queryItem (some q) f = textsItem q
-queryItem none (some f) = nullItem
-queryItem none none = []
-
--- the fragment's item, left off where it is unset
-abbrev pub fragmentItem : Option Bytes → Bytes
-fragmentItem none = []
-fragmentItem (some f) = textItem f
-
--- where the fragment's item starts; the end, where it is left off
-abbrev pub fragmentStart : ℕ → Slot → ℕ
-fragmentStart end unset = end
-fragmentStart end (set at n) = at - headLength n
-
--- where the query's item starts; the end, where it is left off
-abbrev pub tailStart : ℕ → Slot → Slot → ℕ
-tailStart end (set at n) f = at - headLength n
-tailStart end unset unset = end
-tailStart end unset (set at n) = at - headLength n - 1
-
--- a head stands before the position, and something before that
-abbrev pub Headed : Slot → Type 0
-Headed unset = Unit {0}
-Headed (set at n) = headLength n < at
-
-pub record TailLaid (bs : Bytes) (q f : Slot) : Type 0 where
-  pub query : Between bs (tailStart (length bs) q f) (fragmentStart (length bs) f) (queryItem (saidTexts bs q) (saidText bs f))
-  pub fragment : Between bs (fragmentStart (length bs) f) (length bs) (fragmentItem (saidText bs f))
-  pub queryHead : Headed q
-  pub fragmentHead : Headed f
-
--- they start at a position
+-- query and fragment start at a position
 pub record TailAt (bs : Bytes) (at : ℕ) (q f : Slot) : Type 0 where
   pub laid : TailLaid bs q f
   pub start : tailStart (length bs) q f ≡ at
@@ -261,16 +209,6 @@ tail-laid bs at left (set q k) mid (set f n) end h few p t e =
 
 -- ---- the opening, after the outer array's head
 
--- scheme and authority
-pub record FullLaid (bs : Bytes) (s : SchemeAt) (a : AuthorityAt) : Type 0 where
-  pub scheme : Between bs 1 (a .at) (orNull schemeItem (saidScheme bs s))
-  pub authority : Between bs (a .at) (a .next) (authorityItem (saidAuthority bs a))
-
-abbrev pub OpeningLaid : Bytes → OpeningAt → Type 0
-OpeningLaid bs (discardAt k) = Unit {0}
-OpeningLaid bs discardAllAt = Unit {0}
-OpeningLaid bs (fullAt s a) = FullLaid bs s a
-
 -- an authority stands where it was looked for
 authority-at : (bs : Bytes) (at : ℕ) → Ok (λ a. a .at ≡ at) (readAuthority bs at)
 unfolding readAuthority addressHost labelsHost
@@ -309,20 +247,6 @@ opening-laid bs zero sm = ok! tt
 opening-laid bs (suc n) sm = ok-head _ _ _ _ (λ r. kind-laid (kindAt bs 1) bs (suc n) sm r refl)
 
 -- ---- the whole
-
--- the texts of a path, which end where the tail starts
-pub record RowLaid (bs : Bytes) (at n end : ℕ) : Type 0 where
-  pub each : TextsLaid bs at n
-  pub row : Between bs at end (texts (contents bs at n))
-
-abbrev pub PathLaid : Bytes → Slot → ℕ → Type 0
-PathLaid bs unset end = Unit {0}
-PathLaid bs (set at n) end = RowLaid bs at n end
-
-pub record Laid (bs : Bytes) (f : Found) : Type 0 where
-  pub opening : OpeningLaid bs (f .opening)
-  pub path : PathLaid bs (f .path) (tailStart (length bs) (f .query) (f .fragment))
-  pub tail : TailLaid bs (f .query) (f .fragment)
 
 path-laid : (bs : Bytes) (at left : ℕ) (p : Slot) (next end : ℕ) → end ≡ next → ArrayLaid bs at left p next → PathLaid bs p end
 path-laid bs at left unset next end e h = tt
@@ -379,12 +303,6 @@ laid lim bs sm =
 
 -- ---- what that says of an authority
 
--- it stands after the outer array's head, and ends after it starts
-abbrev pub Ordered : OpeningAt → Type 0
-Ordered (discardAt k) = Unit {0}
-Ordered discardAllAt = Unit {0}
-Ordered (fullAt s a) = (1 ≤ a .at) × (a .at ≤ a .next)
-
 pub ordered : (bs : Bytes) (o : OpeningAt) → OpeningLaid bs o → Ordered o
 ordered bs (discardAt k) h = tt
 ordered bs discardAllAt h = tt
@@ -392,18 +310,18 @@ ordered bs (fullAt s a) h = (omega (arith, h .scheme .ends), omega (arith, h .au
 
 -- a part of one of two inputs lies inside it
 abbrev pub PieceStands : Bytes → Bytes → Piece → Type 0
-PieceStands ref base (ofReference s) = s .start + s .length ≤ length ref
-PieceStands ref base (ofBase s) = s .start + s .length ≤ length base
+PieceStands base ref (ofReference s) = s .start + s .length ≤ length ref
+PieceStands base ref (ofBase s) = s .start + s .length ≤ length base
 
-chosen-inside : (ref base : Bytes) (r b : OpeningAt) → OpeningLaid ref r → OpeningLaid base b → PieceStands ref base (chosen (authoritySpan r) (authoritySpan b))
-chosen-inside ref base r b h k = own r h
+chosen-inside : (base ref : Bytes) (b r : OpeningAt) → OpeningLaid base b → OpeningLaid ref r → PieceStands base ref (chosen (authoritySpan b) (authoritySpan r))
+chosen-inside base ref b r k h = own r h
   where
-    other : (b : OpeningAt) → OpeningLaid base b → PieceStands ref base (chosen none (authoritySpan b))
+    other : (b : OpeningAt) → OpeningLaid base b → PieceStands base ref (chosen (authoritySpan b) none)
     other (discardAt n) k = omega arith
     other discardAllAt k = omega arith
     other (fullAt s a) k = omega (arith, k .authority .ends, k .authority .inside)
 
-    own : (r : OpeningAt) → OpeningLaid ref r → PieceStands ref base (chosen (authoritySpan r) (authoritySpan b))
+    own : (r : OpeningAt) → OpeningLaid ref r → PieceStands base ref (chosen (authoritySpan b) (authoritySpan r))
     own (discardAt n) h = other b k
     own discardAllAt h = other b k
     own (fullAt s a) h = omega (arith, h .authority .ends, h .authority .inside)
@@ -414,8 +332,8 @@ ok-base no! = no!
 ok-base (ok! p) = ok! p
 
 -- the view of an authority lies inside
-pub authority-inside : (lim : Limits) (ref base : Bytes) → Octets ref → Octets base → Ok (λ p. PieceStands ref base p) (authorityView lim ref base)
+pub authority-inside : (lim : Limits) (base ref : Bytes) → Octets base → Octets ref → Ok (λ p. PieceStands base ref p) (authorityView lim base ref)
 unfolding authorityView
-authority-inside lim ref base sr sb =
+authority-inside lim base ref sb sr =
     ok-bind _ _ (ok-base (laid lim base sb)) (λ b hb. ok-then _ _ (ok-bind _ _ (laid lim ref sr) (λ r hr.
-    ok! (chosen-inside ref base (r .opening) (b .opening) (hr .opening) (hb .opening)))))
+    ok! (chosen-inside base ref (b .opening) (r .opening) (hb .opening) (hr .opening)))))

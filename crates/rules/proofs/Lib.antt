@@ -2,15 +2,15 @@ pub mod Tools
 pub mod Steps
 pub mod Heads
 pub mod Texts
-pub mod Walk
+pub mod RowWalk
 pub mod Slots
 pub mod Authorities
 pub mod Openings
 pub mod Reading
 pub mod Standing
 pub mod Laid
-pub mod Rows
-pub mod Numbers
+pub mod RowLengths
+pub mod RefusalNumbers
 pub mod RoundTrips
 pub mod Absolutes
 pub mod Utf8Bytes
@@ -22,7 +22,7 @@ pub mod UnText
 pub mod TextBack
 pub mod TextBound
 pub mod Resolving
-pub mod Again
+pub mod ResolvedAgain
 pub mod OptionsBack
 pub mod OptionsBound
 pub mod Compute

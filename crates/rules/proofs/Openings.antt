@@ -12,7 +12,8 @@ use Rattle.rules.specs.Bytes.{Bytes, Octets, all, any, concat, bigEndian
 use Rattle.rules.specs.Model.{Scheme, number, name, Authority, Opening, discard, discardAll, full}
 use Rattle.rules.specs.Head.{Kind, Number, Negative, ByteString, Text, Array, True, Null, Other, codeOf, is, Head, kindAt, headAt, headBytes, majorOf, shortest, width}
 use Rattle.rules.specs.Rules.{schemeName, SchemeEntry, schemes, schemeIn, knownScheme}
-use Rattle.rules.specs.Reader.{opens, taken, SchemeAt, noScheme, numberAt, nameAt, OpeningAt, discardAt, discardAllAt, fullAt, Opened, readAuthority, afterScheme, openingBody, readOpening}
+use Rattle.rules.specs.Reader.{opens, SchemeAt, noScheme, numberAt, nameAt, Opened, readAuthority, afterScheme, openingBody, readOpening}
+use Rattle.rules.specs.Meaning.{saidAuthority, saidScheme, saidOpening}
 use Rattle.rules.specs.Encode.{authorityItem, schemeItem, orNull, nullItem, trueItem, withOpening, discardAlone}
 use Rattle.rules.specs.Valid.{If, GoodAuthority, GoodScheme, GoodOpening}
 use Rattle.rules.proofs.Tools.{never, by-test, and-left, and-right}
@@ -20,20 +21,9 @@ use Rattle.rules.proofs.Steps.{Ok, no!, ok!, ok-bind, ok-need, Yes, yes
 use Rattle.rules.proofs.Heads.{small-value, Stands, ok-head, yes-head, head-spells, next-inside, Spelled, spelled, head-stable, Lead, lead}
 use Rattle.rules.proofs.Texts.{ok-textBody, FitText, good-64, yes-textBody, spelled-text, textBody-stable}
 use Rattle.rules.proofs.Slots.{null-spells, spelled-null, one-item, item-one}
-use Rattle.rules.proofs.Authorities.{saidAuthority, ok-authority, FitAuthority, yes-authority, fit-authority, authority-stable, cons-spells, first-item}
+use Rattle.rules.proofs.Authorities.{ok-authority, FitAuthority, yes-authority, fit-authority, authority-stable, cons-spells, first-item}
 
--- what positions say
-abbrev pub saidScheme : Bytes → SchemeAt → Option (Scheme Bytes)
-saidScheme bs noScheme = none
-saidScheme bs (numberAt n) = some (number n)
-saidScheme bs (nameAt at n) = some (name (taken bs (record { start = at; length = n })))
-
-abbrev pub saidOpening : Bytes → OpeningAt → Opening Bytes
-saidOpening bs (discardAt k) = discard k
-saidOpening bs discardAllAt = discardAll
-saidOpening bs (fullAt s a) = full (saidScheme bs s) (some (saidAuthority bs a))
-
--- an opening, where the array has so many items, of which so many are left after the opening; the last two are never accepted
+-- an opening, where the array has n items, of which `left` are left after the opening; the last two are never accepted
 pub data Opens : ℕ → Opening Bytes → ℕ → Type 0 where
   empty : Opens 0 (discard 0) 0
   alone : {k : ℕ} → Opens 1 (discard (suc k)) 0
@@ -43,7 +33,7 @@ pub data Opens : ℕ → Opening Bytes → ℕ → Type 0 where
   lone : {s : Option (Scheme Bytes)} → Opens 1 (full s none) 0
   missing : {s : Option (Scheme Bytes)} {left : ℕ} → left ≤ 2 → Opens (suc (suc (suc left))) (full s none) (suc left)
 
--- the items of the opening, in an array of so many
+-- the items of the opening, in an array of n
 abbrev pub openItems : ℕ → Opening Bytes → List Bytes
 openItems zero o = []
 openItems (suc n) (discard k) = headBytes Number k ∷ []

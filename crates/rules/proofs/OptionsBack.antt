@@ -303,34 +303,35 @@ unfolding portBytes
 port-octets p h = cond-split Octets (eqb p 0) (λ e. tt) (λ e. cond-split Octets (ltb p 256) (λ l. (omega tests, tt)) (λ l. (omega tests, (omega tests, tt))))
 
 -- options of one number, with such values
-abbrev Run : ℕ → List CoapOption → Type 0
-Run n os = Each (λ o. (o .number ≡ n) × ShortValue (o .value)) os
+abbrev OptionRow : ℕ → List CoapOption → Type 0
+OptionRow n os = Each (λ o. (o .number ≡ n) × ShortValue (o .value)) os
 
 -- each text as an option of one number
-run-of : (n : ℕ) (ts : List Bytes) → Each ShortValue ts → Run n (map (option n) ts)
-run-of n [] h = tt
-run-of n (t ∷ ts) h = ((refl, h .0), run-of n ts (h .1))
+row-of : (n : ℕ) (ts : List Bytes) → Each ShortValue ts → OptionRow n (map (option n) ts)
+row-of n [] h = tt
+row-of n (t ∷ ts) h = ((refl, h .0), row-of n ts (h .1))
 
 -- 7.1, 7.2
-host-run : (h : Host Bytes) (toAddress : Bytes) → GoodHost h → Run 3 (uriHost h toAddress)
+host-row : (h : Host Bytes) (toAddress : Bytes) → GoodHost h → OptionRow 3 (uriHost h toAddress)
 unfolding uriHost
-host-run (labels ls) toAddress g = ((refl, labels-short ls (g .texts .each) (g .name)), tt)
-host-run (address a) toAddress g = cond-split (Run 3) (same a toAddress) (λ e. tt) (λ e. ((refl, address-short a g), tt))
+host-row (labels ls) toAddress g = ((refl, labels-short ls (g .texts .each) (g .name)), tt)
+host-row (address a) toAddress g = cond-split (OptionRow 3) (same a toAddress) (λ e. tt) (λ e. ((refl, address-short a g), tt))
 
-port-run : (p toPort : ℕ) → p ≤ 65535 → Run 7 (uriPort p toPort)
+port-row : (p toPort : ℕ) → p ≤ 65535 → OptionRow 7 (uriPort p toPort)
 unfolding uriPort
-port-run p toPort h = cond-split (Run 7) (eqb p toPort) (λ e. tt) (λ e. ((refl, record { size = omega (arith, port-two p); octets = port-octets p h }), tt))
+port-row p toPort h = cond-split (OptionRow 7) (eqb p toPort) (λ e. tt) (λ e. ((refl, record { size = omega (arith, port-two p); octets = port-octets p h }), tt))
 
 query-short : (q : Option (List Bytes)) → If (GoodTexts parameter 1 16) q → Each ShortValue (elements q)
 query-short none g = tt
 query-short (some ts) g = each-map (good-short parameter (omega arith)) ts (g .each)
 
--- a default port is one of 16 bits
-entry-in : (P : SchemeEntry → Type 0) (es : List SchemeEntry) (n : ℕ) → Each P es → If P (schemeIn es n)
+-- a fact of each entry of the table is a fact of a number's entry
+pub entry-in : (P : SchemeEntry → Type 0) (es : List SchemeEntry) (n : ℕ) → Each P es → If P (schemeIn es n)
 unfolding schemeIn
 entry-in P [] n h = tt
 entry-in P (e ∷ es) n h = cond-split (If P) (eqb n (e .number)) (λ t. h .0) (λ f. entry-in P es n (h .1))
 
+-- a default port is one of 16 bits
 pub default-port : (s : Scheme Bytes) (e : SchemeEntry) → coapScheme s ≡ some e → e .port ≤ 65535
 unfolding schemes all
 default-port (name t) e h = none-some e h
@@ -343,14 +344,14 @@ pub port-most : (p : Option ℕ) (d : ℕ) → If (λ p. p ≤ 65535) p → d �
 port-most none d g h = h
 port-most (some p) d g h = g
 
--- runs of larger and larger numbers
+-- rows of larger and larger numbers
 rising-lower : (before m : ℕ) (os : List CoapOption) → before ≤ m → Rising m os → Rising before os
 rising-lower before m [] l r = tt
 rising-lower before m (o ∷ os) l r = (omega (arith, r .0), r .1)
 
-rising-run : (before n : ℕ) (xs ys : List CoapOption) → before ≤ n → Run n xs → Rising n ys → Rising before (xs ++ ys)
-rising-run before n [] ys l h r = rising-lower before n ys l r
-rising-run before n (x ∷ xs) ys l h r = (omega (arith, h .0 .0), rising-run (x .number) n xs ys (omega (arith, h .0 .0)) (h .1) r)
+rising-row : (before n : ℕ) (xs ys : List CoapOption) → before ≤ n → OptionRow n xs → Rising n ys → Rising before (xs ++ ys)
+rising-row before n [] ys l h r = rising-lower before n ys l r
+rising-row before n (x ∷ xs) ys l h r = (omega (arith, h .0 .0), rising-row (x .number) n xs ys (omega (arith, h .0 .0)) (h .1) r)
 
 -- what is known of the options of a CRI
 pub record UriOption (o : CoapOption) : Type 0 where
@@ -361,19 +362,19 @@ pub record UriOptions (os : List CoapOption) : Type 0 where
   pub rising : Rising 0 os
   pub each : Each UriOption os
 
--- one run of them, and the four
-run-uri : (n : ℕ) → n ≤ 15 → (os : List CoapOption) → Run n os → Each UriOption os
-run-uri n l os h = each-map (λ o k. record { number = omega arith; short = k .1 }) os h
+-- one row of them, and the four
+row-uri : (n : ℕ) → n ≤ 15 → (os : List CoapOption) → OptionRow n os → Each UriOption os
+row-uri n l os h = each-map (λ o k. record { number = omega arith; short = k .1 }) os h
 
-four-runs : (H P S Q : List CoapOption) → Run 3 H → Run 7 P → Run 11 S → Run 15 Q → UriOptions (H ++ P ++ S ++ Q)
-four-runs H P S Q h p s q =
-    let last : Rising 11 Q = rw append-nil at (rising-run 11 15 Q [] (omega arith) q tt) in
+four-rows : (H P S Q : List CoapOption) → OptionRow 3 H → OptionRow 7 P → OptionRow 11 S → OptionRow 15 Q → UriOptions (H ++ P ++ S ++ Q)
+four-rows H P S Q h p s q =
+    let last : Rising 11 Q = rw append-nil at (rising-row 11 15 Q [] (omega arith) q tt) in
     rw (grouped H P S Q)
     (record {
-      rising = rising-run 0 3 H (P ++ (S ++ Q)) (omega arith) h (rising-run 3 7 P (S ++ Q) (omega arith) p (rising-run 7 11 S Q (omega arith) s last));
+      rising = rising-row 0 3 H (P ++ (S ++ Q)) (omega arith) h (rising-row 3 7 P (S ++ Q) (omega arith) p (rising-row 7 11 S Q (omega arith) s last));
       each =
-          each-append UriOption H (P ++ (S ++ Q)) (run-uri 3 (omega arith) H h)
-          (each-append UriOption P (S ++ Q) (run-uri 7 (omega arith) P p) (each-append UriOption S Q (run-uri 11 (omega arith) S s) (run-uri 15 (omega arith) Q q)));
+          each-append UriOption H (P ++ (S ++ Q)) (row-uri 3 (omega arith) H h)
+          (each-append UriOption P (S ++ Q) (row-uri 7 (omega arith) P p) (each-append UriOption S Q (row-uri 11 (omega arith) S s) (row-uri 15 (omega arith) Q q)));
     })
 
 -- their numbers never fall and are at most 15, their values have at most 255 bytes
@@ -384,9 +385,9 @@ cri-options c e toAddress toPort g s =
     let p : ℕ = Option·getD (c .authority .port) (e .port) in
     let most : p ≤ 65535 = port-most (c .authority .port) (e .port) (g .authority .port) (default-port (c .scheme) e s) in
     let segments : Each ShortValue (c .path) = each-map (good-short segment (omega arith)) (c .path) (g .path) in
-    four-runs (uriHost (c .authority .host) toAddress) (uriPort p toPort) (map (option 11) (normalPath (c .path))) (map (option 15) (elements (c .query)))
-    (host-run (c .authority .host) toAddress (g .authority .host)) (port-run p toPort most) (run-of 11 (normalPath (c .path)) (normal-each ShortValue (c .path) segments))
-    (run-of 15 (elements (c .query)) (query-short (c .query) (g .query)))
+    four-rows (uriHost (c .authority .host) toAddress) (uriPort p toPort) (map (option 11) (normalPath (c .path))) (map (option 15) (elements (c .query)))
+    (host-row (c .authority .host) toAddress (g .authority .host)) (port-row p toPort most) (row-of 11 (normalPath (c .path)) (normal-each ShortValue (c .path) segments))
+    (row-of 15 (elements (c .query)) (query-short (c .query) (g .query)))
 
 -- so they can be coded
 pub codable : (os : List CoapOption) → UriOptions os → Codable os

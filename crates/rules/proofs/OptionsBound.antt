@@ -17,11 +17,11 @@ use Rattle.rules.specs.Encode.{textItem, textsItem, hostItems, schemeIte
 use Rattle.rules.specs.Valid.{GoodHost}
 use Rattle.rules.specs.Address.{addressText}
 use Rattle.rules.specs.Options.{CoapOption, option, uriHost, portBytes, uriPort, options, extension, optionBytes, optionsFrom}
+use Rattle.rules.specs.Laid.{texts}
 use Rattle.rules.proofs.Tools.{tests, cond-split}
 use Rattle.rules.proofs.Heads.{head-some}
 use Rattle.rules.proofs.Authorities.{address-most}
-use Rattle.rules.proofs.Laid.{texts}
-use Rattle.rules.proofs.Rows.{text-length, array-length}
+use Rattle.rules.proofs.RowLengths.{text-length, array-length}
 use Rattle.rules.proofs.Absolutes.{withPath, GoodCri, good-read, EncodedAs, encoded-as}
 use Rattle.rules.proofs.TextBound.{itemLength, encode-items, bytes-length, address-length}
 use Rattle.rules.proofs.OptionsBack.{extension-length, option-length, lastNumber, options-append, port-two}
@@ -69,17 +69,17 @@ port-options before p toPort =
 -- ---- path and query
 
 -- texts as options of one number: only the first can have a delta
-run-length : (before n : ℕ) (ts : List Bytes) → length (optionsFrom before (map (option n) ts)) ≤ 2 * length (texts ts) + length (extension (n - before))
+row-length : (before n : ℕ) (ts : List Bytes) → length (optionsFrom before (map (option n) ts)) ≤ 2 * length (texts ts) + length (extension (n - before))
 unfolding optionsFrom concat
-run-length before n [] = omega arith
-run-length before n (t ∷ ts) =
+row-length before n [] = omega arith
+row-length before n (t ∷ ts) =
     rw (length-append (optionBytes (n - before) t) (optionsFrom n (map (option n) ts)), length-append (textItem t) (texts ts))
-    (omega (arith, option-length (n - before) t, extension-few (length t), text-length t, run-length n n ts, extension-few (n - n)))
+    (omega (arith, option-length (n - before) t, extension-few (length t), text-length t, row-length n n ts, extension-few (n - n)))
 
 -- the head of the array pays for that delta
 texts-options : (before n : ℕ) (ts us : List Bytes) → length (texts ts) ≤ length (texts us) → length (optionsFrom before (map (option n) ts)) ≤ 2 * length (textsItem us)
 unfolding textsItem
-texts-options before n ts us l = omega (arith, run-length before n ts, extension-length (n - before), array-length (map textItem us))
+texts-options before n ts us l = omega (arith, row-length before n ts, extension-length (n - before), array-length (map textItem us))
 
 normal-texts : (ts : List Bytes) → length (texts (normalPath ts)) ≤ length (texts ts)
 unfolding normalPath concat

@@ -22,14 +22,14 @@ use Rattle.rules.specs.Promises as P
 use Rattle.rules.specs.Promises.{done, shown, Writes, unfragmented}
 use Rattle.rules.proofs.Steps.{ok-at}
 use Rattle.rules.proofs.Reading.{canonical, complete, prefix-refused, prefix-accepted}
-use Rattle.rules.proofs.Numbers.{numbers}
+use Rattle.rules.proofs.RefusalNumbers.{numbers}
 use Rattle.rules.proofs.RoundTrips.{read-write, write-read}
 use Rattle.rules.proofs.Encoding.{encode-octets}
 use Rattle.rules.proofs.Absolutes.{withPath, absolute-same, read-as, text-ruled, GoodCri, good-read, fits-valid, valid-fits, fits-read}
 use Rattle.rules.proofs.TextBack.{text-same}
 use Rattle.rules.proofs.TextBound.{read-bound}
 use Rattle.rules.proofs.Resolving.{nothing, resolve-nothing, resolve-empty, resolve-again, resolve-absolute, good-resolve, resolved-is, resolve-writes}
-use Rattle.rules.proofs.Again.{encode-some, valid-unfragmented, valid-normal, read-nothing}
+use Rattle.rules.proofs.ResolvedAgain.{encode-some, valid-unfragmented, valid-normal, read-nothing}
 use Rattle.rules.proofs.OptionsBack.{options-octets, options-read, IsOptions, is-options, ruling-ok, requested-read}
 use Rattle.rules.proofs.OptionsBound.{read-options-bound}
 use Rattle.rules.proofs.Compute.{computed}

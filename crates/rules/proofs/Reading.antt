@@ -17,25 +17,21 @@ use Rattle.rules.specs.Model.{Opening, full, Reference, Limits, mapSchem
 use Rattle.rules.specs.Head.{Array, codeOf, is, Head, kindAt, headAt, headBytes}
 use Rattle.rules.specs.Rules.{Sort, segment, parameter, fragmentText}
 use Rattle.rules.specs.Reader.{taken, contents, SlotAt, SchemeAt, noScheme, numberAt, nameAt, Slot, unset, set, HostAt, addressAt, labelsAt, OpeningAt, discardAt, discardAllAt, fullAt, Opened, Found, read}
-use Rattle.rules.specs.Meaning.{schemeSpan, hostSpans, openingSpans, textSpans, textSpan, components, meaning, readReference}
+use Rattle.rules.specs.Meaning.{schemeSpan, hostSpans, openingSpans, textSpans, textSpan, components, meaning, readReference, saidTexts, saidText, saidHost, saidScheme, saidOpening, said}
 use Rattle.rules.specs.Encode.{textItem, textsItem, arrayItem, tailItems, withOpening, encode}
 use Rattle.rules.specs.Valid.{If, Good, GoodTexts, Valid}
 use Rattle.rules.proofs.Tools.{within-high, each-map, concat-append}
 use Rattle.rules.proofs.Steps.{Ok, ok!, ok-bind, ok-need, Yes, yes!, yes-bind, yes-need, yes-use, ok-yes, Kept, kept-bind, kept-need, kept-last, kept-both, kept-refused, kept-accepted, bind-ok}
 use Rattle.rules.proofs.Heads.{is-kind, Stands, ok-head, yes-head, head-ok, head-spells, next-inside, head-stable}
 use Rattle.rules.proofs.Texts.{FitText, good-64}
-use Rattle.rules.proofs.Slots.{saidTexts, saidText, Last, written, SlotIs, ok-array, ok-fragment, FitTexts, yes-array, yes-fragment, array-stable, fragment-stable, three, tail-three}
-use Rattle.rules.proofs.Authorities.{saidHost, same-authority, spelled-array}
-use Rattle.rules.proofs.Openings.{saidScheme, saidOpening, Opens, openItems, with-items, OpenedAt, ok-opening, FitOpening, yes-opening, fit-set, fit-opening, opening-stable, opens-left, opens-count, opens-of}
+use Rattle.rules.proofs.Slots.{Last, written, SlotIs, ok-array, ok-fragment, FitTexts, yes-array, yes-fragment, array-stable, fragment-stable, three, tail-three}
+use Rattle.rules.proofs.Authorities.{same-authority, spelled-array}
+use Rattle.rules.proofs.Openings.{Opens, openItems, with-items, OpenedAt, ok-opening, FitOpening, yes-opening, fit-set, fit-opening, opening-stable, opens-left, opens-count, opens-of}
 
 -- a reference is its four parts
 pub same-reference : {o o′ : Opening Bytes} {p p′ q q′ : Option (List Bytes)} {f f′ : Option Bytes} → o ≡ o′ → p ≡ p′ → q ≡ q′ → f ≡ f′
     → _≡_ {A = Reference} (record { opening = o; path = p; query = q; fragment = f }) (record { opening = o′; path = p′; query = q′; fragment = f′ })
 same-reference a b c d = λ i. record { opening = a i; path = b i; query = c i; fragment = d i }
-
--- what positions say is their meaning
-abbrev pub said : Bytes → OpeningAt → Slot → Slot → Slot → Reference
-said bs o p q f = record { opening = saidOpening bs o; path = saidTexts bs p; query = saidTexts bs q; fragment = saidText bs f }
 
 -- ---- canonical
 
@@ -43,7 +39,7 @@ link : (xs ys : List Bytes) (l₀ l₁ l₂ : Bytes) → l₀ ≡ concat xs ++ l
 link xs ys l₀ l₁ l₂ a b =
     a ∙ ap (λ (l : Bytes). concat xs ++ l) b ∙ sym (append-assoc (concat xs) (concat ys) l₂) ∙ ap (λ (l : Bytes). l ++ l₂) (sym (concat-append xs ys))
 
--- four runs of items, one after the other
+-- four rows of items, one after the other
 chain : (xs ys zs ws : List Bytes) (l₀ l₁ l₂ l₃ l₄ : Bytes) → l₀ ≡ concat xs ++ l₁ → l₁ ≡ concat ys ++ l₂ → l₂ ≡ concat zs ++ l₃ → l₃ ≡ concat ws ++ l₄
     → l₀ ≡ concat (xs ++ (ys ++ (zs ++ ws))) ++ l₄
 chain xs ys zs ws l₀ l₁ l₂ l₃ l₄ a b c d = link xs _ l₀ l₁ l₄ a (link ys _ l₁ l₂ l₄ b (link zs ws l₂ l₃ l₄ c d))
@@ -150,7 +146,7 @@ tail-last p (some q) none = (lit≤ tt, last-many 0 p, tt, tt)
 tail-last (some p) none none = (lit≤ tt, tt, tt, tt)
 tail-last none none none = (lit≤ tt, tt, tt, tt)
 
--- the first run of several
+-- the first row of several
 unlink : (xs ys : List Bytes) (l r : Bytes) → l ≡ concat (xs ++ ys) ++ r → l ≡ concat xs ++ (concat ys ++ r)
 unlink xs ys l r e = e ∙ ap (λ (m : Bytes). m ++ r) (concat-append xs ys) ∙ append-assoc (concat xs) (concat ys) r
 

@@ -17,6 +17,7 @@ use Rattle.rules.specs.Encode.{encode}
 use Rattle.rules.specs.Valid.{If}
 use Rattle.rules.specs.Writing.{labelsOf, openingLabels, allTexts, SizedScheme, SizedOpening, Sized, counted, Lie, placeless, written, Reading, readCall}
 use Rattle.rules.specs.Calls.{write, ruling, writeCall}
+use Rattle.rules.specs.Standing.{FoundStands}
 use Rattle.rules.proofs.Tools.{and-left, and-right, part-most}
 use Rattle.rules.proofs.Steps.{Ok, no!, ok!, ok-need, ok-at, bind-ok}
 use Rattle.rules.proofs.Texts.{FitText}
@@ -24,8 +25,8 @@ use Rattle.rules.proofs.Slots.{FitTexts}
 use Rattle.rules.proofs.Authorities.{FitHost}
 use Rattle.rules.proofs.Openings.{FitScheme, FitOpening}
 use Rattle.rules.proofs.Reading.{canonical, Fit, says}
-use Rattle.rules.proofs.Standing.{FoundStands, stands, all-counted, all-inside}
-use Rattle.rules.proofs.Numbers.{call-accepted, accepted}
+use Rattle.rules.proofs.Standing.{stands, all-counted, all-inside}
+use Rattle.rules.proofs.RefusalNumbers.{call-accepted, accepted}
 
 -- ---- writing what was read
 

@@ -7,25 +7,17 @@ use mathlib.Core.List.{List, [], _∷_, _++_, append-assoc, append-nil, map}
 use mathlib.Core.Option.{Option, none, some}
 use lib.ListN.{length, getD, drop, length-map}
 use borrow.Author.Tests.{ne-eqb}
-use Rattle.rules.specs.Bytes.{Bytes, Each, Octets, part, within, concat, bigEndian}
+use Rattle.rules.specs.Bytes.{Bytes, Each, Octets, within, concat, bigEndian}
 use Rattle.rules.specs.Head.{Kind, Text, Array, Null, codeOf, is, Head, kindAt, headAt, headBytes, majorOf, shortest, width}
 use Rattle.rules.specs.Rules.{Sort, fragmentText}
-use Rattle.rules.specs.Reader.{contents, Slot, unset, set, SlotAt, nullBody, arrayBody, readArray, fragmentBody, readFragment}
+use Rattle.rules.specs.Reader.{contents, Slot, unset, SlotAt, nullBody, arrayBody, readArray, fragmentBody, readFragment, contentAt}
+use Rattle.rules.specs.Meaning.{saidTexts, saidText}
 use Rattle.rules.specs.Encode.{textItem, arrayItem, textsItem, nullItem, orNull, tailItems}
 use Rattle.rules.specs.Valid.{If, Good, GoodTexts}
 use Rattle.rules.proofs.Tools.{never, or-left}
 use Rattle.rules.proofs.Steps.{Ok, ok!, ok-bind, ok-if, ok-need, Yes, yes!, yes-bind, yes-then, yes-else, yes-need, Stable, same!, stable-bind, stable-if, stable-need}
 use Rattle.rules.proofs.Heads.{is-kind, small-value, Stands, ok-head, yes-head, head-spells, next-inside, Spelled, spelled, head-stable, Lead, lead}
-use Rattle.rules.proofs.Texts.{contentAt, ok-textBody, ok-texts, FitText, yes-textBody, spelled-text, yes-texts, textBody-stable, texts-stable, length-contents}
-
--- what a slot says
-abbrev pub saidTexts : Bytes → Slot → Option (List Bytes)
-saidTexts bs unset = none
-saidTexts bs (set at n) = some (contents bs at n)
-
-abbrev pub saidText : Bytes → Slot → Option Bytes
-saidText bs unset = none
-saidText bs (set at n) = some (part bs at n)
+use Rattle.rules.proofs.Texts.{ok-textBody, ok-texts, FitText, yes-textBody, spelled-text, yes-texts, textBody-stable, texts-stable, length-contents}
 
 -- ---- what is written of a slot where `left` items are left, this one among them
 

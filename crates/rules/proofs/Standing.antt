@@ -16,53 +16,17 @@ use Rattle.rules.specs.Reader.{spanAt, endAt, spans, Slot, unset, set, n
 use Rattle.rules.specs.Meaning.{span, schemeSpan, hostSpans, openingSpans, textSpans, textSpan, components}
 use Rattle.rules.specs.Writing.{labelsOf, hostTexts, schemeTexts, whereSet, openingTexts, openingLabels, allTexts, counted, inside, Lie}
 use Rattle.rules.specs.Views.{segmentView}
+use Rattle.rules.specs.Standing.{RowAt, BytesStand, SchemeStands, HostStands, OpeningStands, TextsStand, TextStands, FoundStands}
 use Rattle.rules.proofs.Tools.{and-left, and-right, and-both, or-left, within-high}
 use Rattle.rules.proofs.Steps.{none-some, Ok, no!, ok!, ok-any, ok-bind, ok-map, ok-need, ok-if, ok-given}
 use Rattle.rules.proofs.Heads.{is-kind, Stands, ok-head}
-use Rattle.rules.proofs.Texts.{Items, ok-content, ok-textBody, ok-texts, length-spans}
-use Rattle.rules.proofs.Authorities.{ok-labelBody, ok-names, labels-run, ok-port}
+use Rattle.rules.proofs.Texts.{ok-content, ok-textBody, ok-texts, length-spans}
+use Rattle.rules.proofs.Authorities.{ok-labelBody, ok-names, labels-row, ok-port}
 
 -- it is not too long
 pub read-size : (lim : Limits) (bs : Bytes) → Ok (λ f. length bs ≤ lim .bytes) (read lim bs)
 unfolding read
 read-size lim bs = ok-need _ _ _ _ (λ s. ok-map (ok-any _) (λ f _. leb-true _ _ s))
-
--- at most so many items, one after the other
-pub record ItemsStand (most : ℕ) (bs : Bytes) (at n : ℕ) : Type 0 where
-  pub count : n ≤ most
-  pub each : Items bs at n
-
--- n bytes from a position on
-abbrev pub BytesStand : Bytes → ℕ → ℕ → Type 0
-BytesStand bs at n = at + n ≤ length bs
-
-abbrev pub SchemeStands : Bytes → SchemeAt → Type 0
-SchemeStands bs noScheme = Unit {0}
-SchemeStands bs (numberAt n) = Unit {0}
-SchemeStands bs (nameAt at n) = BytesStand bs at n
-
-abbrev pub HostStands : Bytes → HostAt → Type 0
-HostStands bs (addressAt at n) = BytesStand bs at n
-HostStands bs (labelsAt at n) = ItemsStand 8 bs at n
-
-abbrev pub OpeningStands : Bytes → OpeningAt → Type 0
-OpeningStands bs (discardAt k) = Unit {0}
-OpeningStands bs discardAllAt = Unit {0}
-OpeningStands bs (fullAt s a) = SchemeStands bs s × HostStands bs (a .host)
-
-abbrev pub TextsStand : ℕ → Bytes → Slot → Type 0
-TextsStand most bs unset = Unit {0}
-TextsStand most bs (set at n) = ItemsStand most bs at n
-
-abbrev pub TextStands : Bytes → Slot → Type 0
-TextStands bs unset = Unit {0}
-TextStands bs (set at n) = BytesStand bs at n
-
-pub record FoundStands (lim : Limits) (bs : Bytes) (f : Found) : Type 0 where
-  pub opening : OpeningStands bs (f .opening)
-  pub path : TextsStand (lim .segments) bs (f .path)
-  pub query : TextsStand 16 bs (f .query)
-  pub fragment : TextStands bs (f .fragment)
 
 -- ---- path, query, fragment
 
@@ -91,7 +55,7 @@ labels-stand : {allowed : Kind → Bool} (bs : Bytes) (start at left : ℕ) → 
 unfolding labelsHost
 labels-stand bs start at left sm r e =
     ok-bind _ _ (ok-labelBody 0 bs at sm r e) (λ mid t. ok-bind _ _ (ok-names bs mid left 1 sm) (λ p q. ok-need _ _ _ _ (λ w.
-    ok! (record { count = q .most (lit≤ tt); each = labels-run bs at mid left p (t .1) q }))))
+    ok! (record { count = q .most (lit≤ tt); each = labels-row bs at mid left p (t .1) q }))))
 
 address-stands : (bs : Bytes) (start at left : ℕ) → Octets bs → Ok (λ a. HostStands bs (a .host)) (addressHost bs start at left (headAt bs at))
 unfolding addressHost
@@ -143,7 +107,7 @@ stands lim bs sm =
 -- ---- what that says of the spans
 
 -- a span that is one of n items lies inside
-span-inside : (bs : Bytes) (at n : ℕ) → Items bs at n → (i : ℕ) (s : Span) → getElem? (spans bs at n) i ≡ some s → s .start + s .length ≤ length bs
+span-inside : (bs : Bytes) (at n : ℕ) → RowAt bs at n → (i : ℕ) (s : Span) → getElem? (spans bs at n) i ≡ some s → s .start + s .length ≤ length bs
 unfolding spans
 span-inside bs at zero h i s e = none-some s e
 span-inside bs at (suc n) h zero s e = let d : spanAt bs at ≡ s = cc in subst (λ (s : Span). s .start + s .length ≤ length bs) d (h .0 .inside)
@@ -172,7 +136,7 @@ unfolding all
 both-lie bs [] ys h k = k
 both-lie bs (x ∷ xs) ys h k = and-both (inside bs x) _ (and-left (inside bs x) _ h) (both-lie bs xs ys (and-right (inside bs x) _ h) k)
 
-spans-inside : (bs : Bytes) (at n : ℕ) → Items bs at n → Lie bs (spans bs at n)
+spans-inside : (bs : Bytes) (at n : ℕ) → RowAt bs at n → Lie bs (spans bs at n)
 unfolding spans all inside
 spans-inside bs at zero h = refl
 spans-inside bs at (suc n) h = and-both _ _ (le-leb _ _ (h .0 .inside)) (spans-inside bs (endAt bs at) n (h .1))

@@ -22,7 +22,7 @@ use Rattle.rules.specs.Text.{Class, Label, Segment, Parameter, Fragment,
 use Rattle.rules.proofs.Tools.{by-test, concat-append}
 use Rattle.rules.proofs.Heads.{head-some, head-two}
 use Rattle.rules.proofs.Openings.{of-schemes}
-use Rattle.rules.proofs.Rows.{text-length, array-length}
+use Rattle.rules.proofs.RowLengths.{text-length, array-length}
 use Rattle.rules.proofs.Absolutes.{withPath, GoodCri, good-read, EncodedAs, encoded-as}
 use Rattle.rules.proofs.Escapes.{escape-length}
 use Rattle.rules.proofs.Numerals.{decimal-length, decimal-two, decimal-three}

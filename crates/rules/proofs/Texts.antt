@@ -1,4 +1,4 @@
--- The laws of texts and of runs of texts.
+-- The laws of texts and of texts in a row.
 use Prim.Native.Nat.{ℕ, zero, suc, _+_, _^_, _≤_, _<_}
 use native.Mathlib.Omega.{arith}
 use mathlib.Core.Path.{_≡_, refl, sym, ap, ap₂, _∙_, subst}
@@ -9,27 +9,15 @@ use borrow.Author.Tests.{leb-true, le-leb}
 use Rattle.rules.specs.Bytes.{Bytes, Each, Octets, part, within, concat}
 use Rattle.rules.specs.Result.{Res, ok, _>>=_}
 use Rattle.rules.specs.Utf8.{utf8}
-use Rattle.rules.specs.Head.{Kind, Text, codeOf, is, Head, kindAt, infoAt, headAt, headBytes}
+use Rattle.rules.specs.Head.{Kind, Text, codeOf, is, Head, kindAt, headAt, headBytes}
 use Rattle.rules.specs.Rules.{Sort}
-use Rattle.rules.specs.Reader.{readContent, spanAt, endAt, spans, taken, contents, textBody, readText, readTexts}
+use Rattle.rules.specs.Reader.{readContent, endAt, spans, taken, contents, textBody, readText, readRow, contentAt}
 use Rattle.rules.specs.Encode.{textItem}
 use Rattle.rules.specs.Valid.{Good}
+use Rattle.rules.specs.Standing.{ItemStands, RowAt}
 use Rattle.rules.proofs.Tools.{within-high, length-part, split-part, drop-at-drop, take-at-drop, part-more, leb-more}
 use Rattle.rules.proofs.Steps.{Ok, ok!, ok-bind, ok-map, ok-need, Yes, yes!, yes-bind, yes-map, yes-need, Stable, same!, stable-bind, stable-need, stable-cut}
 use Rattle.rules.proofs.Heads.{is-kind, Known, Stands, ok-head, yes-head, head-spells, Spelled, spelled, head-stable, headAt-more}
-
--- the content of the item that stands at a position
-abbrev pub contentAt : Bytes → ℕ → Bytes
-contentAt bs at = taken bs (spanAt bs at)
-
--- an item stands at a position, whole; and n of them, one after the other. What a walk over items that were accepted asks.
-pub record ItemStands (bs : Bytes) (at : ℕ) : Type 0 where
-  pub info : infoAt bs at < 28
-  pub inside : endAt bs at ≤ length bs
-
-abbrev pub Items : Bytes → ℕ → ℕ → Type 0
-Items bs at zero = Unit {0}
-Items bs at (suc n) = ItemStands bs at × Items bs (endAt bs at) n
 
 -- ---- content
 
@@ -88,16 +76,16 @@ pub ok-text : (s : Sort) (bs : Bytes) (at : ℕ) → Octets bs → Ok (λ next. 
 unfolding readText
 ok-text s bs at sm = ok-head _ _ _ _ (λ r. ok-textBody s bs at sm r (is-kind Text _ (r .kind)))
 
--- ---- a run of texts that is accepted
+-- ---- texts in a row that are accepted
 
 pub record TextsAt (s : Sort) (bs : Bytes) (at n next : ℕ) : Type 0 where
   pub spells : drop at bs ≡ concat (map textItem (contents bs at n)) ++ drop next bs
   pub good : Each (Good s) (contents bs at n)
-  pub stand : Items bs at n
+  pub stand : RowAt bs at n
   pub inside : at ≤ length bs → next ≤ length bs
 
-pub ok-texts : (s : Sort) (bs : Bytes) (at n : ℕ) → Octets bs → Ok (λ next. TextsAt s bs at n next) (readTexts s bs at n)
-unfolding readTexts contents spans concat
+pub ok-texts : (s : Sort) (bs : Bytes) (at n : ℕ) → Octets bs → Ok (λ next. TextsAt s bs at n next) (readRow s bs at n)
+unfolding readRow contents spans concat
 ok-texts s bs at zero sm = ok! (record { spells = refl; good = tt; stand = tt; inside = λ h. h })
 ok-texts s bs at (suc n) sm =
     ok-bind _ _ (ok-text s bs at sm) (λ mid t. ok-map (ok-texts s bs mid n sm) (λ next r.
@@ -161,12 +149,12 @@ yes-text s t bs at rest f good e =
     let w = spelled-text t bs at rest f e in
     yes-head _ _ _ _ (w .stands (is Text) refl) (yes-textBody s t bs at rest w good)
 
--- ---- the same of a run of texts
+-- ---- the same of texts in a row
 
 pub yes-texts : {G : Type 0} (s : Sort) (ts : List Bytes) (bs : Bytes) (at : ℕ) (rest : Bytes) → Each FitText ts → (G → Each (Good s) ts)
     → drop at bs ≡ concat (map textItem ts) ++ rest
-    → Yes G (λ next. (drop next bs ≡ rest) × (contents bs at (length ts) ≡ ts)) (readTexts s bs at (length ts))
-unfolding readTexts contents spans concat
+    → Yes G (λ next. (drop next bs ≡ rest) × (contents bs at (length ts) ≡ ts)) (readRow s bs at (length ts))
+unfolding readRow contents spans concat
 yes-texts s [] bs at rest f good e = yes! (e, refl)
 yes-texts s (t ∷ ts) bs at rest f good e =
     yes-bind _ _ (yes-text s t bs at (concat (map textItem ts) ++ rest) (f .0) (λ g. good g .0) (e ∙ append-assoc (textItem t) (concat (map textItem ts)) rest))
@@ -183,8 +171,8 @@ pub text-stable : (s : Sort) (p q : Bytes) (at : ℕ) → Stable (readText s p a
 unfolding readText
 text-stable s p q at = stable-bind _ _ _ _ (head-stable (is Text) p q at) (λ h. textBody-stable s p q at h)
 
-pub texts-stable : (s : Sort) (p q : Bytes) (at n : ℕ) → Stable (readTexts s p at n) (readTexts s (p ++ q) at n)
-unfolding readTexts
+pub texts-stable : (s : Sort) (p q : Bytes) (at n : ℕ) → Stable (readRow s p at n) (readRow s (p ++ q) at n)
+unfolding readRow
 texts-stable s p q at zero = same!
 texts-stable s p q at (suc n) = stable-bind _ _ _ _ (text-stable s p q at) (λ next. texts-stable s p q next n)
 

@@ -1,5 +1,5 @@
 -- RULES 11: the table of small cases, and the other worked examples.
-use Prim.Native.Nat.{ℕ}
+use Prim.Native.Nat.{ℕ, _+_}
 use Prim.Native.String.{String}
 use mathlib.Core.Path.{_≡_}
 use mathlib.Core.List.{List, [], _∷_, _++_, map}
@@ -160,9 +160,9 @@ refusals =
     ∷ refusedAt "82 20 89 61 61 61 61 61 61 61 61 61 61 61 61 61 61 61 61 61" 4 19
     ∷ refusedAt "82 20 89 61 61 61 61 61 61 61 61 61 61 61 61 61 61 61 61 7F" 3 19
     ∷ refusedAt "82 20 84 61 31 61 32 61 33 61 34" 6 2
-    -- bytes after the array; over 1,024 bytes
+    -- bytes after the array; an input that is too long
     ∷ refusedAt "80 00" 7 1
-    ∷ record { input = replicate 1025 0; number = 4; place = 1024 }
+    ∷ record { input = replicate (limits .bytes + 1) 0; number = 4; place = limits .bytes }
     ∷ []
 
 -- ---- 11.2: options

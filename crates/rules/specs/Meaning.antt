@@ -2,10 +2,10 @@
 use Prim.Native.Nat.{ℕ}
 use mathlib.Core.List.{List}
 use mathlib.Core.Option.{Option, none, some}
-use Rattle.rules.specs.Bytes.{Bytes}
+use Rattle.rules.specs.Bytes.{Bytes, part}
 use Rattle.rules.specs.Result.{Res, ok, given, _>>=_, BASE}
 use Rattle.rules.specs.Model.{Scheme, number, name, Host, address, labels, Authority, Opening, discard, discardAll, full, Span, Components, Reference, mapParts, Limits, Cri, absolute}
-use Rattle.rules.specs.Reader.{Slot, unset, set, spans, taken, HostAt, addressAt, labelsAt, AuthorityAt, SchemeAt, noScheme, numberAt, nameAt, OpeningAt, discardAt, discardAllAt, fullAt, Found, read}
+use Rattle.rules.specs.Reader.{Slot, unset, set, spans, taken, contents, HostAt, addressAt, labelsAt, AuthorityAt, SchemeAt, noScheme, numberAt, nameAt, OpeningAt, discardAt, discardAllAt, fullAt, Found, read}
 
 -- ---- the components: where each text and address stands
 
@@ -59,6 +59,51 @@ components bs f =
 -- each span replaced by its bytes
 unfoldable pub meaning : Bytes → Found → Reference
 meaning bs f = mapParts (taken bs) (components bs f)
+
+-- ---- the same, part by part
+
+-- the texts of a path or query, where it is set
+abbrev pub saidTexts : Bytes → Slot → Option (List Bytes)
+saidTexts bs unset = none
+saidTexts bs (set at n) = some (contents bs at n)
+
+-- the text of a fragment, where it is set
+abbrev pub saidText : Bytes → Slot → Option Bytes
+saidText bs unset = none
+saidText bs (set at n) = some (part bs at n)
+
+-- the bytes of the address, or the labels
+abbrev pub saidHost : Bytes → HostAt → Host Bytes
+saidHost bs (addressAt at n) = address (taken bs (record { start = at; length = n }))
+saidHost bs (labelsAt at n) = labels (contents bs at n)
+
+-- the host, and the port
+abbrev pub saidAuthority : Bytes → AuthorityAt → Authority Bytes
+saidAuthority bs a = record { host = saidHost bs (a .host); port = a .port }
+
+-- the scheme's number or its text, where it is set
+abbrev pub saidScheme : Bytes → SchemeAt → Option (Scheme Bytes)
+saidScheme bs noScheme = none
+saidScheme bs (numberAt n) = some (number n)
+saidScheme bs (nameAt at n) = some (name (taken bs (record { start = at; length = n })))
+
+-- the discard, or scheme and authority
+abbrev pub saidOpening : Bytes → OpeningAt → Opening Bytes
+saidOpening bs (discardAt k) = discard k
+saidOpening bs discardAllAt = discardAll
+saidOpening bs (fullAt s a) = full (saidScheme bs s) (some (saidAuthority bs a))
+
+-- the reference of an opening, a path, a query and a fragment: what `meaning` says of them
+abbrev pub said : Bytes → OpeningAt → Slot → Slot → Slot → Reference
+said bs o p q f =
+    record {
+      opening = saidOpening bs o;
+      path = saidTexts bs p;
+      query = saidTexts bs q;
+      fragment = saidText bs f;
+    }
+
+-- ---- reading as a reference
 
 -- the reference that an input says, or the reader's refusal
 unfoldable pub readReference : Limits → Bytes → Res Reference

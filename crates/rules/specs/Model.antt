@@ -12,7 +12,7 @@ pub data Scheme (A : Type 0) : Type 0 where
   number : ℕ → Scheme A
   name : A → Scheme A
 
--- RULES 1.8: an address or a run of labels, then a port, or none
+-- RULES 1.8: an address or labels, then a port, or none
 pub data Host (A : Type 0) : Type 0 where
   address : A → Host A
   labels : List A → Host A
@@ -89,6 +89,14 @@ pub record Limits : Type 0 where
 -- the sizes in force
 abbrev pub limits : Limits
 limits = record { bytes = 1024; segments = 32 }
+
+-- 2.3: how many parameters a query may have
+abbrev pub mostParameters : ℕ
+mostParameters = 16
+
+-- 2.5: how many labels an authority may have
+abbrev pub mostLabels : ℕ
+mostLabels = 8
 
 -- ---- absolute CRIs
 

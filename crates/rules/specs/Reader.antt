@@ -8,7 +8,7 @@ use lib.ListN.{length}
 use lib.Dec.{ltb, leb, eqb}
 use Rattle.rules.specs.Bytes.{Bytes, part, within}
 use Rattle.rules.specs.Result.{Res, refused, ok, need, _>>=_, _>>_, if_then_else_, CUT, FORM, LIMIT, TEXT, RULE, TAIL}
-use Rattle.rules.specs.Model.{Span, Limits}
+use Rattle.rules.specs.Model.{Span, Limits, mostLabels, mostParameters}
 use Rattle.rules.specs.Utf8.{utf8}
 use Rattle.rules.specs.Head.{Kind, Number, Negative, ByteString, Text, Array, True, Null, Other, is, Head, headAt, readHead}
 use Rattle.rules.specs.Rules.{Sort, segment, parameter, fragmentText, label, schemeName, knownScheme, nameRule}
@@ -37,11 +37,11 @@ readText s bs at = do
   textBody s bs at h
 
 -- n texts, one after the other; the position after them
-unfoldable pub readTexts : Sort → Bytes → ℕ → ℕ → Res ℕ
-readTexts s bs at zero = ok at
-readTexts s bs at (suc n) = do
+unfoldable pub readRow : Sort → Bytes → ℕ → ℕ → Res ℕ
+readRow s bs at zero = ok at
+readRow s bs at (suc n) = do
   next ← readText s bs at
-  readTexts s bs next n
+  readRow s bs next n
 
 -- ---- what stands at a position, if an item does
 
@@ -61,6 +61,10 @@ spans bs at (suc n) = spanAt bs at ∷ spans bs (endAt bs at) n
 -- the bytes of a span
 abbrev pub taken : Bytes → Span → Bytes
 taken bs s = part bs (s .start) (s .length)
+
+-- the content of the item that stands at a position
+abbrev pub contentAt : Bytes → ℕ → Bytes
+contentAt bs at = taken bs (spanAt bs at)
 
 -- the contents of n items, one after the other
 unfoldable pub contents : Bytes → ℕ → ℕ → List Bytes
@@ -88,7 +92,7 @@ nullBody at left h = do
 unfoldable pub arrayBody : Sort → ℕ → ℕ → Bytes → ℕ → Head → Res SlotAt
 arrayBody s low high bs at h = do
   need (within low high (h .value)) LIMIT at
-  next ← readTexts s bs (h .next) (h .value)
+  next ← readRow s bs (h .next) (h .value)
   ok (record { slot = set (h .next) (h .value); next = next })
 
 -- an array of low to high texts, or null, or nothing where no item is left
@@ -155,7 +159,7 @@ readPort bs at (suc left) = do
 -- 4.7: the n-th label, from 0; a ninth is over the limit
 unfoldable pub labelBody : ℕ → Bytes → ℕ → Head → Res ℕ
 labelBody n bs at h = do
-  need (ltb n 8) LIMIT at
+  need (ltb n mostLabels) LIMIT at
   textBody label bs at h
 
 -- after n labels: a label, a port, or nothing
@@ -181,7 +185,7 @@ labelsHost bs start at left h = do
   need (nameRule (contents bs at (p .count))) RULE start
   ok (record { at = start; host = labelsAt at (p .count); port = p .port; next = p .next })
 
--- 2.6: an array of 1 to 9 items: an address or a run of labels, then an optional port
+-- 2.6: an array of 1 to 9 items: an address or labels, then an optional port
 unfoldable pub readAuthority : Bytes → ℕ → Res AuthorityAt
 readAuthority bs at = do
   a ← readHead (is Array) bs at
@@ -265,7 +269,7 @@ read lim bs = do
   need (leb (a .value) 5) FORM 0
   o ← readOpening bs (a .next) (a .value)
   p ← readArray segment 0 (lim .segments) bs (o .next) (o .left)
-  q ← readArray parameter 1 16 bs (p .next) (o .left - 1)
+  q ← readArray parameter 1 mostParameters bs (p .next) (o .left - 1)
   f ← readFragment bs (q .next) (o .left - 2)
   need (leb (length bs) (f .next)) TAIL (f .next)
   ok (record { opening = o .opening; path = p .slot; query = q .slot; fragment = f .slot })

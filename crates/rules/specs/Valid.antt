@@ -7,7 +7,7 @@ use mathlib.Core.Option.{Option, none, some}
 use lib.ListN.{length}
 use lib.Dec.{eqb}
 use Rattle.rules.specs.Bytes.{Bytes, Each, Octets, within}
-use Rattle.rules.specs.Model.{Scheme, number, name, Host, address, labels, Authority, Opening, discard, discardAll, full, Reference, Limits}
+use Rattle.rules.specs.Model.{Scheme, number, name, Host, address, labels, Authority, Opening, discard, discardAll, full, Reference, Limits, mostLabels, mostParameters}
 use Rattle.rules.specs.Utf8.{utf8}
 use Rattle.rules.specs.Rules.{Sort, schemeName, label, segment, parameter, fragmentText, knownScheme, nameRule}
 use Rattle.rules.specs.Encode.{encode}
@@ -23,7 +23,7 @@ pub record Good (s : Sort) (t : Bytes) : Type 0 where
   pub encoded : utf8 t ≡ true
   pub rule : s .rule t ≡ true
 
--- so many texts of a sort
+-- low to high texts of a sort
 pub record GoodTexts (s : Sort) (low high : ℕ) (ts : List Bytes) : Type 0 where
   pub count : within low high (length ts) ≡ true
   pub each : Each (Good s) ts
@@ -33,9 +33,9 @@ pub record GoodAddress (a : Bytes) : Type 0 where
   pub size : (eqb (length a) 4 || eqb (length a) 16) ≡ true
   pub octets : Octets a
 
--- 2.5: 1 to 8 labels, and the rules over all of them
+-- 2.5: 1 to `mostLabels` labels, and the rules over all of them
 pub record GoodLabels (ts : List Bytes) : Type 0 where
-  pub texts : GoodTexts label 1 8 ts
+  pub texts : GoodTexts label 1 mostLabels ts
   pub name : nameRule ts ≡ true
 
 -- 1.8: an address or labels
@@ -43,10 +43,14 @@ abbrev pub GoodHost : Host Bytes → Type 0
 GoodHost (address a) = GoodAddress a
 GoodHost (labels ts) = GoodLabels ts
 
+-- 2.6: a port up to 65535, or none
+abbrev pub GoodPort : Option ℕ → Type 0
+GoodPort = If (λ p. p ≤ 65535)
+
 -- 1.8, 2.6: a host, and a port up to 65535
 pub record GoodAuthority (a : Authority Bytes) : Type 0 where
   pub host : GoodHost (a .host)
-  pub port : If (λ p. p ≤ 65535) (a .port)
+  pub port : GoodPort (a .port)
 
 -- 1.6, 1.7: a number of the table, or a text
 abbrev pub GoodScheme : Scheme Bytes → Type 0
@@ -64,6 +68,6 @@ GoodOpening (full s (some a)) = If GoodScheme s × GoodAuthority a
 pub record Valid (lim : Limits) (r : Reference) : Type 0 where
   pub opening : GoodOpening (r .opening)
   pub path : If (GoodTexts segment 0 (lim .segments)) (r .path)
-  pub query : If (GoodTexts parameter 1 16) (r .query)
+  pub query : If (GoodTexts parameter 1 mostParameters) (r .query)
   pub fragment : If (Good fragmentText) (r .fragment)
   pub size : length (encode r) ≤ lim .bytes

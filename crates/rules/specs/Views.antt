@@ -30,19 +30,19 @@ authoritySpan (discardAt k) = none
 authoritySpan discardAllAt = none
 authoritySpan (fullAt s a) = some (record { start = a .at; length = a .next - a .at })
 
--- the reference's own where it brings one, else the base's, which an absolute base always has
+-- of the base's and the reference's: the reference's own where it brings one, else the base's, which an absolute base always has
 abbrev pub chosen : Option Span → Option Span → Piece
-chosen (some s) b = ofReference s
-chosen none (some s) = ofBase s
+chosen b (some s) = ofReference s
+chosen (some s) none = ofBase s
 chosen none none = ofReference nowhere
 
 -- 10.2: 8 for the base, then 1 to 7 for the reference
 unfoldable pub authorityView : Limits → Bytes → Bytes → Res Piece
-authorityView lim ref base = do
+authorityView lim base ref = do
   b ← asBase (read lim base)
   given (absolute (meaning base b)) BASE 0
   r ← read lim ref
-  ok (chosen (authoritySpan (r .opening)) (authoritySpan (b .opening)))
+  ok (chosen (authoritySpan (b .opening)) (authoritySpan (r .opening)))
 
 -- 10.3: a view that can't be given is the empty part at the start of the reference
 abbrev pub segmentShown : Res Span → Span

@@ -8,7 +8,7 @@ use lib.ListN.{length}
 use lib.Dec.{leb}
 use Rattle.rules.specs.Bytes.{Bytes, all}
 use Rattle.rules.specs.Result.{Res, refused, ok, need, _>>=_, _>>_, LIMIT}
-use Rattle.rules.specs.Model.{Scheme, number, name, Host, address, labels, Opening, discard, discardAll, full, Parts, Span, Components, mapParts, Limits, elements}
+use Rattle.rules.specs.Model.{Scheme, number, name, Host, address, labels, Opening, discard, discardAll, full, Parts, Span, Components, mapParts, Limits, elements, mostLabels, mostParameters}
 use Rattle.rules.specs.Reader.{taken, Found, read}
 use Rattle.rules.specs.Meaning.{components}
 use Rattle.rules.specs.Encode.{encode}
@@ -71,11 +71,11 @@ SizedOpening (full s a) = If SizedScheme s × If (λ a. If (λ p. p < 2 ^ 64) (a
 abbrev pub Sized : Components → Type 0
 Sized c = SizedOpening (c .opening)
 
--- 9.2: at most 8 labels, 32 segments, 16 parameters
+-- 9.2: no count is over its size
 unfoldable pub counted : Limits → Components → Bool
 counted lim c =
-    leb (length (openingLabels (c .opening))) 8
-    && (leb (length (elements (c .path))) (lim .segments) && leb (length (elements (c .query))) 16)
+    leb (length (openingLabels (c .opening))) mostLabels
+    && (leb (length (elements (c .path))) (lim .segments) && leb (length (elements (c .query))) mostParameters)
 
 -- 9.2: a span lies inside the lent bytes
 unfoldable pub inside : Bytes → Span → Bool

@@ -13,7 +13,7 @@ use Rattle.rules.specs.Views.{numberOf}
 use Rattle.rules.specs.Calls.{outcome, textCall}
 use Rattle.rules.specs.Promises.{done}
 use Rattle.outcomes.specs.declared.Done.{Done}
-use Rattle.outcomes.specs.Answer.{doneIs}
+use Rattle.outcomes.specs.Answers.{doneIs}
 use Rattle.sameness.specs.declared.Compared.{Compared}
 use Rattle.sameness.specs.declared.Verdict.{Verdict}
 

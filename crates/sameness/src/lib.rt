@@ -8,6 +8,8 @@ ghost use Rattle.rules.specs.Model.{limits};
 ghost use Rattle.rules.specs.Calls.{after, textCall};
 ghost use Rattle.sameness.specs.Answers.{WroteSame, Answered, CallsDemand3, Judged};
 use cri::Done;
+use numbers::DONE;
+use numbers::TEXT_ROOM;
 
 // What the two calls answered, and whether both wrote a text and the two texts are equal.
 pub struct Compared {
@@ -28,15 +30,15 @@ fn wrote_same(first: Done, second: Done, x: &[u8], y: &[u8]) -> bool
     requires { ⌜ (first .length ≤ length (now x)) × (second .length ≤ length (now y)) ⌝ }
     ensures { λ r. ⌜ (r ≡ true) ↔ WroteSame first second (now (x .entry)) (now (y .entry)) ⌝ }
 {
-    if first.number != 0 {
+    if first.number != DONE {
         return false;
     }
-    if second.number != 0 {
+    if second.number != DONE {
         return false;
     }
     let n = first.length;
     let m = second.length;
-    texts::same_at(x, 0, n, &y[..m])
+    same_bytes::same_at(x, 0, n, &y[..m])
 }
 
 // Writes the URI text of the first link into the room x and that of the second into the room y, and compares what was written. Each call
@@ -56,12 +58,12 @@ pub fn compare(first: &[u8], second: &[u8], x: &mut [u8], y: &mut [u8]) -> Compa
     }
 }
 
-// Whether two links are the same CRI. The rooms have 3 * 1,024 + 13 bytes, enough for the text of every accepted link, so no number is 10.
+// Whether two links are the same CRI. The rooms are long enough for the text of every accepted link, so no number is 10.
 pub fn judge(first: &[u8], second: &[u8]) -> Verdict
     ensures { λ r. ⌜ Judged (now (first .entry)) (now (second .entry)) r ⌝ }
 {
-    let mut x = [0u8; 3085];
-    let mut y = [0u8; 3085];
+    let mut x = [0u8; TEXT_ROOM];
+    let mut y = [0u8; TEXT_ROOM];
     let compared = compare(first, second, &mut x, &mut y);
     let one = compared.first;
     let other = compared.second;

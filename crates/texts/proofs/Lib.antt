@@ -1,3 +1,3 @@
 -- Laws that the proofs of this crate's functions cite.
-pub mod Walk
-pub mod Cases
+pub mod ByteWalk
+pub mod RuleCases

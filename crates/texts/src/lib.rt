@@ -3,13 +3,25 @@ ghost use mathlib.Core.Path.{_≡_};
 ghost use mathlib.Core.List.{[], _∷_};
 ghost use Prim.Native.Nat.{ℕ, _+_, _≤_};
 ghost use lib.ListN.{length};
-ghost use Rattle.rules.specs.Bytes.{part, within, all, same};
+ghost use Rattle.rules.specs.Bytes.{part, within, all};
 ghost use Rattle.rules.specs.Head.{Kind};
 ghost use Rattle.rules.specs.Rules.{schemeByte, startsLower, schemeRule, labelByte, labelRule, segmentRule, octet, looksIPv4, nameRule};
 ghost use Rattle.rules.specs.Reader.{textBody, contents};
-ghost use Rattle.rules.proofs.Texts.{Items};
-ghost use Rattle.texts.specs.Code.{sortIs, stepIs, knownName, dottedLength};
+ghost use Rattle.rules.specs.Standing.{RowAt};
+ghost use Rattle.texts.specs.Answers.{sortIs, stepIs, dottedLength};
+use numbers::CUT;
+use numbers::LABEL_BYTES;
+use numbers::LIMIT;
+use numbers::NAME_BYTES;
+use numbers::RULE;
+use numbers::SCHEME_BYTES;
+use numbers::TEXT;
+use numbers::TEXT_BYTES;
+use same_bytes::same_at;
 use utf8::inside;
+
+// The most bytes that all labels have, each with a dot after it.
+const DOTTED_BYTES: usize = NAME_BYTES + 1;
 
 // What a text is, which settles its least and greatest length and its rule.
 pub enum Sort {
@@ -24,60 +36,6 @@ pub enum Sort {
 pub enum Step {
     Next(usize),
     Refused(u8),
-}
-
-// The names of the schemes that have a number. A scheme's text is compared with them, and they are what a number prints as.
-pub const COAP: [u8; 4] = *b"coap";
-
-pub const COAPS: [u8; 5] = *b"coaps";
-
-pub const COAP_TCP: [u8; 8] = *b"coap+tcp";
-
-pub const COAPS_TCP: [u8; 9] = *b"coaps+tcp";
-
-pub const COAP_WS: [u8; 7] = *b"coap+ws";
-
-pub const COAPS_WS: [u8; 8] = *b"coaps+ws";
-
-// Whether n bytes from a position on are these.
-pub fn same_at(s: &[u8], from: usize, n: usize, t: &[u8]) -> bool
-    requires { ⌜ from + n ≤ length (now s) ⌝ }
-    ensures { λ r. ⌜ r ≡ same (part (now (s .entry)) from n) (now (t .entry)) ⌝ }
-{
-    if n != t.len() {
-        return false;
-    }
-    let mut i = 0;
-    while i < n {
-        if s[from + i] != t[i] {
-            return false;
-        }
-        i += 1;
-    }
-    true
-}
-
-// Whether n bytes from a position on are the name of a scheme that has a number.
-fn known_name(s: &[u8], from: usize, n: usize) -> bool
-    requires { ⌜ from + n ≤ length (now s) ⌝ }
-    ensures { λ r. ⌜ r ≡ knownName (part (now (s .entry)) from n) ⌝ }
-{
-    if same_at(s, from, n, &COAP) {
-        return true;
-    }
-    if same_at(s, from, n, &COAPS) {
-        return true;
-    }
-    if same_at(s, from, n, &COAP_TCP) {
-        return true;
-    }
-    if same_at(s, from, n, &COAPS_TCP) {
-        return true;
-    }
-    if same_at(s, from, n, &COAP_WS) {
-        return true;
-    }
-    same_at(s, from, n, &COAPS_WS)
 }
 
 // A lower-case letter, a digit, "+", "." or "-".
@@ -132,7 +90,7 @@ fn scheme_rule(s: &[u8], from: usize, n: usize) -> bool
 {
     if starts_lower(s, from, n) {
         if scheme_bytes(s, from, n) {
-            return !known_name(s, from, n);
+            return !schemes::is_name(s, from, n);
         }
     }
     false
@@ -207,11 +165,11 @@ fn most_of(sort: Sort) -> u64
     ensures { λ r. ⌜ r ≡ sortIs sort .high ⌝ }
 {
     match sort {
-        Sort::SchemeName => 16,
-        Sort::Label => 63,
-        Sort::Segment => 255,
-        Sort::Parameter => 255,
-        Sort::Fragment => 255,
+        Sort::SchemeName => SCHEME_BYTES,
+        Sort::Label => LABEL_BYTES,
+        Sort::Segment => TEXT_BYTES,
+        Sort::Parameter => TEXT_BYTES,
+        Sort::Fragment => TEXT_BYTES,
     }
 }
 
@@ -226,29 +184,29 @@ fn length_fits(n: u64, sort: Sort) -> bool
 }
 
 // A text of n bytes, whose head has been read and ends at a position.
-pub fn text_body(s: &[u8], n: u64, next: usize, sort: Sort) -> Step
+pub fn text_body(s: &[u8], next: usize, n: u64, sort: Sort) -> Step
     requires { ⌜ next ≤ length (now s) ⌝ }
     ensures { λ r. ⌜ ((k : Kind) (at : ℕ) → stepIs at r ≡ textBody (sortIs sort) (now (s .entry)) at (record { kind = k; value = n; next = next })) ⌝ }
 {
     if !length_fits(n, sort) {
-        return Step::Refused(4);
+        return Step::Refused(LIMIT);
     }
     let count = n as usize;
     if s.len() - next < count {
-        return Step::Refused(1);
+        return Step::Refused(CUT);
     }
     if !utf8::valid(s, next, count) {
-        return Step::Refused(5);
+        return Step::Refused(TEXT);
     }
     if !keeps_rule(s, next, count, sort) {
-        return Step::Refused(6);
+        return Step::Refused(RULE);
     }
     Step::Next(next + count)
 }
 
 // The length of labels that were accepted, each with a dot after it.
 fn dotted_length(s: &[u8], at: usize, count: usize) -> usize
-    requires { ⌜ (Items (now s) at count) × (at ≤ length (now s)) ⌝ }
+    requires { ⌜ (RowAt (now s) at count) × (at ≤ length (now s)) ⌝ }
     ensures { λ r. ⌜ r ≡ dottedLength (contents (now (s .entry)) at count) ⌝ }
 {
     let mut here = at;
@@ -307,7 +265,7 @@ fn octet_at(s: &[u8], from: usize, n: usize) -> bool
 
 // Whether labels that were accepted would print as an IPv4 address.
 fn looks_ipv4(s: &[u8], at: usize, count: usize) -> bool
-    requires { ⌜ Items (now s) at count ⌝ }
+    requires { ⌜ RowAt (now s) at count ⌝ }
     ensures { λ r. ⌜ r ≡ looksIPv4 (contents (now (s .entry)) at count) ⌝ }
 {
     if count != 4 {
@@ -329,10 +287,10 @@ fn looks_ipv4(s: &[u8], at: usize, count: usize) -> bool
 
 // The rules over all labels, which were accepted one by one.
 pub fn name_rule(s: &[u8], at: usize, count: usize) -> bool
-    requires { ⌜ (Items (now s) at count) × (at ≤ length (now s)) ⌝ }
+    requires { ⌜ (RowAt (now s) at count) × (at ≤ length (now s)) ⌝ }
     ensures { λ r. ⌜ r ≡ nameRule (contents (now (s .entry)) at count) ⌝ }
 {
-    if 256 < dotted_length(s, at, count) {
+    if DOTTED_BYTES < dotted_length(s, at, count) {
         return false;
     }
     !looks_ipv4(s, at, count)

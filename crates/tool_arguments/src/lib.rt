@@ -1,7 +1,8 @@
 // The arguments of a command of cri_tool, and what is wrong with them.
+use numbers::PORT;
 use output::at_most;
-use typed::Destination;
-use typed::Hex;
+use tool_input::Destination;
+use tool_input::Hex;
 
 // What is wrong with an argument.
 pub enum Fault {
@@ -92,7 +93,7 @@ fn take_input(room: &mut [u8]) -> TakenBytes {
     if 65535 < n {
         return no_bytes(Fault::TooLong);
     }
-    bytes_of(typed::hex_bytes(room, &mut scratch, &word[..n]))
+    bytes_of(tool_input::hex_bytes(room, &mut scratch, &word[..n]))
 }
 
 // The bytes that an argument of hex says.
@@ -103,7 +104,7 @@ fn take_word(room: &mut [u8], i: usize) -> TakenBytes {
     if os::errno() != 0 {
         return no_bytes(Fault::TooLong);
     }
-    bytes_of(typed::hex_bytes(room, &mut scratch, &word[..n]))
+    bytes_of(tool_input::hex_bytes(room, &mut scratch, &word[..n]))
 }
 
 // Whether another argument before this one is "-" too.
@@ -180,7 +181,7 @@ pub fn take_joined(room: &mut [u8]) -> TakenBytes {
         return no_bytes(Fault::TooLong);
     }
     let k = at_most(n, &word);
-    bytes_of(typed::hex_bytes(room, &mut scratch, &word[..k]))
+    bytes_of(tool_input::hex_bytes(room, &mut scratch, &word[..k]))
 }
 
 fn address_of(address: Destination) -> TakenBytes {
@@ -208,7 +209,7 @@ pub fn take_address(room: &mut [u8], i: usize) -> TakenBytes {
     if os::errno() != 0 {
         return no_bytes(Fault::AddressTooLong);
     }
-    address_of(typed::address_bytes(room, &mut scratch, &word[..n]))
+    address_of(tool_input::address_bytes(room, &mut scratch, &word[..n]))
 }
 
 // A port, or what is wrong with it.
@@ -225,7 +226,7 @@ fn no_port(fault: Fault) -> TakenPort {
 }
 
 fn port_of(n: u64) -> TakenPort {
-    if n <= 65535 {
+    if n <= PORT {
         return TakenPort {
             value: n as u16,
             fault: Fault::None,

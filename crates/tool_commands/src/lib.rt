@@ -1,13 +1,10 @@
 // The commands of cri_tool. What is asked for goes to standard output; a refusal that was not asked for, and what is wrong with the arguments,
 // to standard error. Each command makes one call of the library, or two, with room enough for every answer.
+use numbers::BYTES;
+use numbers::DONE;
+use numbers::OPTIONS_ROOM;
+use numbers::TEXT_ROOM;
 use output::at_most;
-use told::say;
-use told::say_address;
-use told::say_bytes;
-use told::say_hex;
-use told::say_options;
-use told::say_reference;
-use told::say_refusal;
 use tool_arguments::Fault;
 use tool_arguments::is_fault;
 use tool_arguments::take_address;
@@ -16,6 +13,13 @@ use tool_arguments::take_joined;
 use tool_arguments::take_port;
 use tool_arguments::warn;
 use tool_arguments::warn_fault;
+use tool_messages::say;
+use tool_messages::say_address;
+use tool_messages::say_bytes;
+use tool_messages::say_hex;
+use tool_messages::say_options;
+use tool_messages::say_reference;
+use tool_messages::say_refusal;
 
 enum Command {
     Show,
@@ -81,9 +85,9 @@ fn refuse(what: &[u8], number: u8) {
 
 // The URI text of an absolute CRI, after `before`; nothing where it has none. The result is the number of the call.
 fn say_uri_text(before: &[u8], s: &[u8]) -> u8 {
-    let mut room = [0u8; 4096];
+    let mut room = [0u8; TEXT_ROOM];
     let done = cri::uri_text(s, &mut room);
-    if done.number == 0 {
+    if done.number == DONE {
         let n = at_most(done.length, &room);
         say(before);
         say(&room[..n]);
@@ -109,7 +113,7 @@ fn show() {
 
 fn say_text(s: &[u8]) {
     let number = say_uri_text(b"", s);
-    if number != 0 {
+    if number != DONE {
         refuse(b"", number);
     }
 }
@@ -135,9 +139,9 @@ fn say_cri(s: &[u8]) {
 }
 
 fn say_resolved(base: &[u8], reference: &[u8]) {
-    let mut room = [0u8; 1024];
+    let mut room = [0u8; BYTES];
     let done = cri::resolve(base, reference, &mut room);
-    if done.number != 0 {
+    if done.number != DONE {
         return refuse(b"", done.number);
     }
     let n = at_most(done.length, &room);
@@ -188,9 +192,9 @@ fn say_coded(s: &[u8]) {
 }
 
 fn say_request(s: &[u8], address: &[u8], port: u16) {
-    let mut room = [0u8; 4096];
+    let mut room = [0u8; OPTIONS_ROOM];
     let done = cri::options(s, address, port, &mut room);
-    if done.number != 0 {
+    if done.number != DONE {
         return refuse(b"", done.number);
     }
     let n = at_most(done.length, &room);

@@ -1,3 +1,3 @@
 -- The laws of the text as it is written.
-mod Texts
-mod Written
+mod Printed
+mod PrintedParts

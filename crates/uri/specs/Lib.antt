@@ -1,2 +1,2 @@
 -- The URI text of what was read, as it is written.
-pub mod Texts
+pub mod Printed

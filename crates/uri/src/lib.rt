@@ -4,13 +4,16 @@ ghost use mathlib.Core.Path.{_≡_};
 ghost use lib.ListN.{length};
 ghost use lib.Dec.{leb};
 ghost use Rattle.rules.specs.Model.{limits};
+ghost use Rattle.rules.specs.Meaning.{saidOpening};
 ghost use Rattle.rules.specs.Calls.{write, outcome, after, textCall};
-ghost use Rattle.rules.proofs.Openings.{saidOpening};
 ghost use Rattle.put.specs.Wrote.{Wrote};
-ghost use Rattle.reader.specs.Code.{openingOf, foundOf};
-ghost use Rattle.outcomes.specs.Answer.{doneIs};
+ghost use Rattle.reader.specs.Answers.{openingOf, foundOf};
+ghost use Rattle.outcomes.specs.Answers.{doneIs};
 ghost use Rattle.uri_parts.specs.Pieces.{Short};
-ghost use Rattle.uri.specs.Texts.{originPiece, textAt, OpeningPrints, Prints};
+ghost use Rattle.uri.specs.Printed.{originPiece, textAt, OpeningPrints, Prints};
+use numbers::BASE;
+use numbers::DONE;
+use numbers::ROOM;
 use outcomes::Done;
 use put::put_bytes;
 use reader::Answer;
@@ -102,7 +105,7 @@ fn put_text(room: &mut [u8], s: &[u8], found: Found) -> usize
     put_fragment(room, c, s, fragment)
 }
 
-// Whether the text has at most so many bytes. None has more than 3n + 13, so it is measured only for less room than that.
+// Whether the text has at most `size` bytes. None has more than 3n + 13, so it is measured only for less room than that.
 fn has_room(s: &[u8], found: Found, size: usize) -> bool
     requires { ⌜ Prints (now s) (foundOf found) ⌝ }
     ensures { λ r. ⌜ r ≡ leb (length (textAt (now (s .entry)) (foundOf found))) size ⌝ }
@@ -121,11 +124,11 @@ fn print(s: &[u8], found: Found, room: &mut [u8]) -> Done
 {
     if has_room(s, found, room.len()) {
         return Done {
-            number: 0,
+            number: DONE,
             length: put_text(room, s, found),
         };
     }
-    outcomes::refused(10)
+    outcomes::refused(ROOM)
 }
 
 // The answer, and the URI text in the room.
@@ -140,7 +143,7 @@ pub fn uri_text(s: &[u8], room: &mut [u8]) -> Done
             if absolutes::is_absolute(opening) {
                 print(s, found, room)
             } else {
-                outcomes::refused(8)
+                outcomes::refused(BASE)
             }
         }
     }

@@ -10,26 +10,16 @@ use borrow.Author.Tests.{eqb-true, eq-eqb, ne-eqb}
 use Rattle.rules.specs.Bytes.{Bytes, part, dot, colon, slash, question, hash, ampersand, join}
 use Rattle.rules.specs.Rules.{schemes, schemeIn}
 use Rattle.rules.specs.Reader.{contents, Slot, unset, set, HostAt, addressAt, labelsAt, SchemeAt, noScheme, numberAt, nameAt}
+use Rattle.rules.specs.Meaning.{saidTexts, saidText, saidHost, saidScheme}
 use Rattle.rules.specs.Numeral.{decimal}
 use Rattle.rules.specs.Address.{ipv4Text, ipv6Text, leftBracket, rightBracket, addressText}
 use Rattle.rules.specs.Valid.{GoodHost}
 use Rattle.rules.specs.Text.{Label, Segment, Parameter, Fragment, escape, marked, entryName, schemeText, hostText, pathText, queryText}
+use Rattle.rules.specs.Standing.{HostStands}
 use Rattle.rules.proofs.Tools.{or-right, cond-yes, cond-no, length-part}
-use Rattle.rules.proofs.Slots.{saidTexts, saidText}
-use Rattle.rules.proofs.Authorities.{saidHost}
-use Rattle.rules.proofs.Openings.{no-scheme, saidScheme}
-use Rattle.rules.proofs.Standing.{HostStands}
 use Rattle.uri_parts.specs.Pieces.{schemePiece, hostPiece, portPiece, pathPiece, queryPiece, fragmentPiece, HostPrints}
 
 -- ---- scheme
-
--- the name of a number of the table
-pub named : (n m : ℕ) (t : Bytes) → n ≡ m → entryName (schemeIn schemes m) ≡ t → t ≡ entryName (schemeIn schemes n)
-named n m t e f = sym f ∙ ap (λ (n : ℕ). entryName (schemeIn schemes n)) (sym e)
-
--- no other number has a name
-pub no-name : (n : ℕ) → (n ≡ 0 → ⊥) → (n ≡ 1 → ⊥) → (n ≡ 6 → ⊥) → (n ≡ 7 → ⊥) → (n ≡ 8 → ⊥) → (n ≡ 9 → ⊥) → [] ≡ entryName (schemeIn schemes n)
-no-name n a b c d e f = ap entryName (sym (no-scheme n a b c d e f))
 
 module _ (bs : Bytes) where
   pub scheme-none : {x : SchemeAt} → x ≡ noScheme → [] ≡ schemePiece (saidScheme bs x)

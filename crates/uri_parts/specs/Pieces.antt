@@ -11,7 +11,7 @@ use Rattle.rules.specs.Model.{Scheme, Host, elements}
 use Rattle.rules.specs.Reader.{Slot, unset, set, HostAt, addressAt, labelsAt}
 use Rattle.rules.specs.Numeral.{decimal}
 use Rattle.rules.specs.Text.{Fragment, escape, marked, schemeText, hostText, pathText, queryText}
-use Rattle.rules.proofs.Texts.{Items}
+use Rattle.rules.specs.Standing.{RowAt}
 
 -- ---- RULES 6.1: the parts
 
@@ -45,12 +45,12 @@ fragmentPiece f = marked hash (Option·map (escape Fragment) f)
 -- an address of 4 or 16 bytes inside the input, or labels
 abbrev pub HostPrints : Bytes → HostAt → Type 0
 HostPrints bs (addressAt at n) = (at + n ≤ length bs) × ((eqb n 4 || eqb n 16) ≡ true)
-HostPrints bs (labelsAt at n) = Items bs at n
+HostPrints bs (labelsAt at n) = RowAt bs at n
 
 -- segments or parameters
 abbrev pub TextsPrint : Bytes → Slot → Type 0
 TextsPrint bs unset = Unit {0}
-TextsPrint bs (set at n) = Items bs at n
+TextsPrint bs (set at n) = RowAt bs at n
 
 -- its length is a number of the machine
 abbrev pub Short : Bytes → Type 0

@@ -6,23 +6,13 @@ ghost use lib.ListN.{length};
 ghost use lib.Dec.{eqb};
 ghost use Rattle.rules.specs.Bytes.{Bytes, part};
 ghost use Rattle.rules.specs.Model.{limits};
-ghost use Rattle.rules.specs.Rules.{schemes, schemeIn};
+ghost use Rattle.rules.specs.Meaning.{saidTexts, saidText, saidHost, saidScheme};
+ghost use Rattle.rules.specs.Valid.{GoodPort};
 ghost use Rattle.rules.specs.Address.{addressText};
-ghost use Rattle.rules.specs.Text.{entryName};
-ghost use Rattle.rules.proofs.Slots.{saidTexts, saidText};
-ghost use Rattle.rules.proofs.Authorities.{saidHost, GoodPort};
-ghost use Rattle.rules.proofs.Openings.{saidScheme};
-ghost use Rattle.rules.proofs.Standing.{SchemeStands, TextStands};
+ghost use Rattle.rules.specs.Standing.{SchemeStands, TextStands};
 ghost use Rattle.put.specs.Wrote.{Wrote};
-ghost use Rattle.reader.specs.Code.{slotOf, hostOf, portOf, schemeOf};
+ghost use Rattle.reader.specs.Answers.{slotOf, hostOf, portOf, schemeOf};
 ghost use Rattle.uri_parts.specs.Pieces.{schemePiece, hostPiece, portPiece, pathPiece, queryPiece, fragmentPiece, HostPrints, TextsPrint, Short};
-use escape::Class;
-use escape::bare_bits;
-use escape::escaped_length;
-use escape::put_escaped;
-use escape::upper_hex_digits;
-use escaped_runs::put_run;
-use escaped_runs::run_length;
 use ipv4::ipv4_length;
 use ipv4::put_ipv4;
 use ipv6::ipv6_length;
@@ -30,45 +20,22 @@ use ipv6::put_ipv6;
 use numeral::decimal_length;
 use numeral::put_decimal;
 use put::put_byte;
-use put::put_bytes;
 use put::put_part;
 use reader::HostAt;
 use reader::Port;
 use reader::SchemeAt;
 use reader::Slot;
+use schemes::name_length;
+use schemes::put_name;
+use uri_escape::Class;
+use uri_escape::bare_bits;
+use uri_escape::escaped_length;
+use uri_escape::put_escaped;
+use uri_escape::upper_hex_digits;
+use uri_rows::put_row;
+use uri_rows::row_length;
 
 // ---- scheme
-
-// How long the name of a scheme number is.
-fn name_length(n: u64) -> usize
-    ensures { λ r. ⌜ r ≡ length (entryName (schemeIn schemes n)) ⌝ }
-{
-    match n {
-        0 => texts::COAP.len(),
-        1 => texts::COAPS.len(),
-        6 => texts::COAP_TCP.len(),
-        7 => texts::COAPS_TCP.len(),
-        8 => texts::COAP_WS.len(),
-        9 => texts::COAPS_WS.len(),
-        _ => 0,
-    }
-}
-
-// The name of a scheme number.
-fn put_name(room: &mut [u8], at: usize, n: u64) -> usize
-    requires { ⌜ at + length (entryName (schemeIn schemes n)) ≤ length (now room) ⌝ }
-    ensures { λ r. ⌜ Wrote (now (room .entry)) at (entryName (schemeIn schemes n)) (now (room .exit)) r ⌝ }
-{
-    match n {
-        0 => put_bytes(room, at, &texts::COAP),
-        1 => put_bytes(room, at, &texts::COAPS),
-        6 => put_bytes(room, at, &texts::COAP_TCP),
-        7 => put_bytes(room, at, &texts::COAPS_TCP),
-        8 => put_bytes(room, at, &texts::COAP_WS),
-        9 => put_bytes(room, at, &texts::COAPS_WS),
-        _ => at,
-    }
-}
 
 // How long a scheme is, by its number or as its text.
 pub fn scheme_length(scheme: SchemeAt) -> usize
@@ -77,7 +44,7 @@ pub fn scheme_length(scheme: SchemeAt) -> usize
     match scheme {
         SchemeAt::Unset => 0,
         SchemeAt::Number(n) => name_length(n),
-        SchemeAt::Name(_, n) => n,
+        SchemeAt::Name { length: n, .. } => n,
     }
 }
 
@@ -90,7 +57,10 @@ pub fn put_scheme(room: &mut [u8], at: usize, s: &[u8], scheme: SchemeAt) -> usi
     match scheme {
         SchemeAt::Unset => at,
         SchemeAt::Number(n) => put_name(room, at, n),
-        SchemeAt::Name(from, n) => put_part(room, at, s, from, n),
+        SchemeAt::Name {
+            at: from,
+            length: n,
+        } => put_part(room, at, s, from, n),
     }
 }
 
@@ -130,8 +100,11 @@ pub fn host_length(s: &[u8], host: HostAt) -> usize
     ensures { λ r. ⌜ r ≡ length (hostPiece (saidHost (now (s .entry)) (hostOf host))) ⌝ }
 {
     match host {
-        HostAt::Address(from, n) => 1 + address_length(s, from, n),
-        HostAt::Labels(from, n) => run_length(s, from, n, Class::Label),
+        HostAt::Address {
+            at: from,
+            length: n,
+        } => 1 + address_length(s, from, n),
+        HostAt::Labels { at: from, count: n } => row_length(s, from, n, Class::Label),
     }
 }
 
@@ -142,11 +115,23 @@ pub fn put_host(room: &mut [u8], at: usize, s: &[u8], host: HostAt) -> usize
     ensures { λ r. ⌜ Wrote (now (room .entry)) at (hostPiece (saidHost (now (s .entry)) (hostOf host))) (now (room .exit)) r ⌝ }
 {
     match host {
-        HostAt::Address(from, n) => {
+        HostAt::Address {
+            at: from,
+            length: n,
+        } => {
             let p = put_byte(room, at, b'/');
             put_address(room, p, s, from, n)
         }
-        HostAt::Labels(from, n) => put_run(room, at, s, from, n, Class::Label, b'/', b'.'),
+        HostAt::Labels { at: from, count: n } => put_row(
+            room,
+            at,
+            s,
+            from,
+            n,
+            Class::Label,
+            b'/',
+            b'.',
+        ),
     }
 }
 
@@ -187,7 +172,7 @@ pub fn path_length(s: &[u8], path: Slot) -> usize
 {
     match path {
         Slot::Unset => 1,
-        Slot::Set(at, n) => run_length(s, at, n, Class::Segment),
+        Slot::Set { at, count: n } => row_length(s, at, n, Class::Segment),
     }
 }
 
@@ -199,7 +184,16 @@ pub fn put_path(room: &mut [u8], at: usize, s: &[u8], path: Slot) -> usize
 {
     match path {
         Slot::Unset => put_byte(room, at, b'/'),
-        Slot::Set(from, n) => put_run(room, at, s, from, n, Class::Segment, b'/', b'/'),
+        Slot::Set { at: from, count: n } => put_row(
+            room,
+            at,
+            s,
+            from,
+            n,
+            Class::Segment,
+            b'/',
+            b'/',
+        ),
     }
 }
 
@@ -211,7 +205,7 @@ pub fn query_length(s: &[u8], query: Slot) -> usize
 {
     match query {
         Slot::Unset => 0,
-        Slot::Set(at, n) => run_length(s, at, n, Class::Parameter),
+        Slot::Set { at, count: n } => row_length(s, at, n, Class::Parameter),
     }
 }
 
@@ -223,7 +217,16 @@ pub fn put_query(room: &mut [u8], at: usize, s: &[u8], query: Slot) -> usize
 {
     match query {
         Slot::Unset => at,
-        Slot::Set(from, n) => put_run(room, at, s, from, n, Class::Parameter, b'?', b'&'),
+        Slot::Set { at: from, count: n } => put_row(
+            room,
+            at,
+            s,
+            from,
+            n,
+            Class::Parameter,
+            b'?',
+            b'&',
+        ),
     }
 }
 
@@ -236,7 +239,7 @@ pub fn fragment_length(s: &[u8], fragment: Slot) -> usize
 {
     match fragment {
         Slot::Unset => 0,
-        Slot::Set(at, n) => {
+        Slot::Set { at, count: n } => {
             let bits = bare_bits(Class::Fragment);
             1 + escaped_length(s, at, n, Class::Fragment, &bits)
         }
@@ -251,7 +254,7 @@ pub fn put_fragment(room: &mut [u8], at: usize, s: &[u8], fragment: Slot) -> usi
 {
     match fragment {
         Slot::Unset => at,
-        Slot::Set(from, n) => {
+        Slot::Set { at: from, count: n } => {
             let bits = bare_bits(Class::Fragment);
             let digits = upper_hex_digits();
             let p = put_byte(room, at, b'#');

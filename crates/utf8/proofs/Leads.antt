@@ -7,7 +7,7 @@ use lib.Dec.{ltb, eqb}
 use borrow.Author.Tests.{eqb-true}
 use Rattle.rules.specs.Utf8.{Lead, follow, wrong, leadOf}
 use Rattle.rules.proofs.Tools.{never, and-left, and-right, cond-split, allBelow, below}
-use Rattle.utf8.specs.Code.{secondLow, secondHigh}
+use Rattle.utf8.specs.Answers.{secondLow, secondHigh}
 
 abbrev sameLead : Lead → Lead → Bool
 sameLead (follow a b c) (follow d e f) = eqb a d && (eqb b e && eqb c f)

@@ -1,3 +1,3 @@
 -- Laws that the proofs of this crate's functions cite.
 pub mod Leads
-pub mod Walk
+pub mod Utf8Walk

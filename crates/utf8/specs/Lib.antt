@@ -1,2 +1,2 @@
 -- What the functions of this crate answer, in the terms of the rules.
-pub mod Code
+pub mod Answers

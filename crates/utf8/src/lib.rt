@@ -6,7 +6,7 @@ ghost use lib.ListN.{length};
 ghost use lib.Dec.{ltb};
 ghost use Rattle.rules.specs.Bytes.{part, within, all};
 ghost use Rattle.rules.specs.Utf8.{leadOf, utf8};
-ghost use Rattle.utf8.specs.Code.{leadIs, secondLow, secondHigh, isAscii, Passed, Stopped, Followed, Character};
+ghost use Rattle.utf8.specs.Answers.{leadIs, secondLow, secondHigh, isAscii, Passed, Stopped, Followed, Character};
 
 // What a lead byte asks for: how many bytes follow, and from where to where the second byte may be.
 pub enum Lead {
@@ -37,7 +37,7 @@ fn second_high(b: u8) -> u8
 }
 
 // What a lead byte asks for (RFC 3629, section 4).
-pub fn lead_of(b: u8) -> Lead
+fn lead_of(b: u8) -> Lead
     ensures { λ r. ⌜ leadIs r ≡ leadOf b ⌝ }
 {
     match b {

@@ -8,15 +8,15 @@ ghost use Rattle.rules.specs.Model.{elements, limits};
 ghost use Rattle.rules.specs.Reader.{spanAt};
 ghost use Rattle.rules.specs.Meaning.{textSpans};
 ghost use Rattle.rules.specs.Views.{segmentView, authoritySpan, chosen, authorityView, segmentShown, pieceShown, numberOf};
-ghost use Rattle.rules.proofs.Texts.{Items};
-ghost use Rattle.rules.proofs.Standing.{TextsStand};
-ghost use Rattle.rules.proofs.Laid.{Ordered};
+ghost use Rattle.rules.specs.Standing.{RowAt, TextsStand};
+ghost use Rattle.rules.specs.Laid.{Ordered};
 ghost use Rattle.cbor.specs.Heads.{spanIs};
-ghost use Rattle.reader.specs.Code.{slotOf, openingOf};
-ghost use Rattle.runs.specs.Rows.{nthAt};
-ghost use Rattle.views.specs.Parts.{PartOf, PieceOf, viewIs, pieceIs};
+ghost use Rattle.reader.specs.Answers.{slotOf, openingOf};
+ghost use Rattle.cbor_rows.specs.Rows.{nthAt};
+ghost use Rattle.views.specs.Shown.{PartOf, PieceOf, viewIs, pieceIs};
 use cbor::Span;
 use cbor::span_at;
+use numbers::NONE;
 use reader::Answer;
 use reader::AuthorityAt;
 use reader::OpeningAt;
@@ -39,10 +39,10 @@ enum Piece {
 
 // Where the content of the n-th item stands, from 0, of those that stand in a row from a position on.
 fn nth_span(s: &[u8], at: usize, n: usize) -> Span
-    requires { ⌜ Items (now s) at (suc n) ⌝ }
+    requires { ⌜ RowAt (now s) at (suc n) ⌝ }
     ensures { λ r. ⌜ spanIs r ≡ spanAt (now (s .entry)) (nthAt (now (s .entry)) at n) ⌝ }
 {
-    span_at(s, runs::after(s, at, n))
+    span_at(s, cbor_rows::after(s, at, n))
 }
 
 // The n-th segment of a path.
@@ -51,12 +51,12 @@ fn path_segment(s: &[u8], path: Slot, n: usize) -> View
     ensures { λ r. ⌜ viewIs r ≡ given (getElem? (elements (textSpans (now (s .entry)) (slotOf path))) n) NONE 0 ⌝ }
 {
     match path {
-        Slot::Unset => View::Refused(18, 0),
-        Slot::Set(at, count) => {
+        Slot::Unset => View::Refused(NONE, 0),
+        Slot::Set { at, count } => {
             if n < count {
                 View::At(nth_span(s, at, n))
             } else {
-                View::Refused(18, 0)
+                View::Refused(NONE, 0)
             }
         }
     }
@@ -75,25 +75,25 @@ fn nth_segment(s: &[u8], n: usize) -> View
     }
 }
 
-// The n-th path segment, from 0: the part of s that holds it; the empty part at the start where there is none.
-pub fn segment(s: &[u8], n: usize) -> &[u8]
-    ensures { λ r. ⌜ PartOf (s .entry) r (segmentShown (segmentView limits (now (s .entry)) n)) ⌝ }
+// The n-th path segment, from 0: the part of the link that holds it; the empty part at the start where there is none.
+pub fn segment(link: &[u8], n: usize) -> &[u8]
+    ensures { λ r. ⌜ PartOf (link .entry) r (segmentShown (segmentView limits (now (link .entry)) n)) ⌝ }
 {
-    match nth_segment(s, n) {
+    match nth_segment(link, n) {
         View::At(span) => {
             let start = span.start;
             let end = start + span.length;
-            &s[start..end]
+            &link[start..end]
         }
-        View::Refused(_, _) => &s[..0],
+        View::Refused(_, _) => &link[..0],
     }
 }
 
-// 0 where that segment is there; 1 to 7 where the input is refused; 18 where it has no such segment.
-pub fn segment_number(s: &[u8], n: usize) -> u8
-    ensures { λ r. ⌜ r ≡ numberOf (segmentView limits (now (s .entry)) n) ⌝ }
+// 0 where that segment is there; 1 to 7 where the link is refused; 18 where it has no such segment.
+pub fn segment_number(link: &[u8], n: usize) -> u8
+    ensures { λ r. ⌜ r ≡ numberOf (segmentView limits (now (link .entry)) n) ⌝ }
 {
-    match nth_segment(s, n) {
+    match nth_segment(link, n) {
         View::At(_) => 0,
         View::Refused(k, _) => k,
     }
@@ -115,7 +115,7 @@ fn item_span(authority: AuthorityAt) -> Span
 // The base's authority.
 fn base_item(base: OpeningAt) -> Piece
     requires { ⌜ Ordered (openingOf base) ⌝ }
-    ensures { λ r. ⌜ pieceIs r ≡ ok (chosen none (authoritySpan (openingOf base))) ⌝ }
+    ensures { λ r. ⌜ pieceIs r ≡ ok (chosen (authoritySpan (openingOf base)) none) ⌝ }
 {
     match base {
         OpeningAt::Discard(_) => Piece::OfReference(Span {
@@ -131,9 +131,9 @@ fn base_item(base: OpeningAt) -> Piece
 }
 
 // The reference's own authority, else the base's.
-fn chosen_item(reference: OpeningAt, base: OpeningAt) -> Piece
-    requires { ⌜ Ordered (openingOf reference) × Ordered (openingOf base) ⌝ }
-    ensures { λ r. ⌜ pieceIs r ≡ ok (chosen (authoritySpan (openingOf reference)) (authoritySpan (openingOf base))) ⌝ }
+fn chosen_item(base: OpeningAt, reference: OpeningAt) -> Piece
+    requires { ⌜ Ordered (openingOf base) × Ordered (openingOf reference) ⌝ }
+    ensures { λ r. ⌜ pieceIs r ≡ ok (chosen (authoritySpan (openingOf base)) (authoritySpan (openingOf reference))) ⌝ }
 {
     match reference {
         OpeningAt::Discard(_) => base_item(base),
@@ -143,8 +143,8 @@ fn chosen_item(reference: OpeningAt, base: OpeningAt) -> Piece
 }
 
 // The authority that the reference brings, else the base's. The base is judged first.
-fn chosen_authority(reference: &[u8], base: &[u8]) -> Piece
-    ensures { λ r. ⌜ pieceIs r ≡ authorityView limits (now (reference .entry)) (now (base .entry)) ⌝ }
+fn chosen_authority(base: &[u8], reference: &[u8]) -> Piece
+    ensures { λ r. ⌜ pieceIs r ≡ authorityView limits (now (base .entry)) (now (reference .entry)) ⌝ }
 {
     match absolutes::read_base(base) {
         Answer::Refused(k, place) => Piece::Refused(k, place),
@@ -153,17 +153,18 @@ fn chosen_authority(reference: &[u8], base: &[u8]) -> Piece
             Answer::Is(r) => {
                 let own = r.opening;
                 let other = b.opening;
-                chosen_item(own, other)
+                chosen_item(other, own)
             }
         },
     }
 }
 
-// The authority that the reference brings, else the base's: the whole encoded item, as a part of the slice that has it; the empty part at the start of the reference where it can't be given.
-pub fn authority<'a>(reference: &'a [u8], base: &'a [u8]) -> &'a [u8]
-    ensures { λ r. ⌜ PieceOf (reference .entry) (base .entry) r (pieceShown (authorityView limits (now (reference .entry)) (now (base .entry)))) ⌝ }
+// The authority that the reference brings, else the base's: the whole encoded item, as a part of the slice that has it; the empty part at
+// the start of the reference where it can't be given.
+pub fn authority<'a>(base: &'a [u8], reference: &'a [u8]) -> &'a [u8]
+    ensures { λ r. ⌜ PieceOf (base .entry) (reference .entry) r (pieceShown (authorityView limits (now (base .entry)) (now (reference .entry)))) ⌝ }
 {
-    match chosen_authority(reference, base) {
+    match chosen_authority(base, reference) {
         Piece::OfReference(span) => {
             let start = span.start;
             let end = start + span.length;
@@ -179,10 +180,10 @@ pub fn authority<'a>(reference: &'a [u8], base: &'a [u8]) -> &'a [u8]
 }
 
 // 0 where it is given; 8 where the base is refused or not absolute; 1 to 7 where the reference is refused.
-pub fn authority_number(reference: &[u8], base: &[u8]) -> u8
-    ensures { λ r. ⌜ r ≡ numberOf (authorityView limits (now (reference .entry)) (now (base .entry))) ⌝ }
+pub fn authority_number(base: &[u8], reference: &[u8]) -> u8
+    ensures { λ r. ⌜ r ≡ numberOf (authorityView limits (now (base .entry)) (now (reference .entry))) ⌝ }
 {
-    match chosen_authority(reference, base) {
+    match chosen_authority(base, reference) {
         Piece::OfReference(_) => 0,
         Piece::OfBase(_) => 0,
         Piece::Refused(k, _) => k,

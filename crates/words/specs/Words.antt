@@ -42,7 +42,7 @@ ifFits v = cond (ltb v (2 ^ 64)) (NumberV.Is v) NumberV.TooLarge
 unfoldable pub numberOf : Bytes → Number
 numberOf w = cond (someDigits 10 w) (ifFits (decimalFrom 0 w)) NumberV.NotDecimal
 
--- what so many hex digits say in a room of this length
+-- what a word of hex digits says in a room of this length
 unfoldable pub ifHeld : ℕ → ℕ → Hex
 ifHeld digits room = cond (eqb (digits % 2) 1) HexV.Odd (cond (ltb room (digits / 2)) HexV.TooLong (HexV.Bytes (digits / 2)))
 

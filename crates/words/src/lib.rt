@@ -16,7 +16,7 @@ pub enum Number {
 
 // What a word of hex says.
 pub enum Hex {
-    // So many bytes.
+    // How many bytes.
     Bytes(usize),
     NotHex,
     // An odd number of digits.

@@ -1,4 +1,4 @@
-mod Laws
-mod Items
-mod Texts
+mod Added
+mod AddedItems
+mod AddedTexts
 mod Rulings

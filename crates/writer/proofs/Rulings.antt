@@ -16,14 +16,14 @@ use Rattle.rules.specs.Writing.{counted, inside, allTexts, placeless, written}
 use Rattle.rules.specs.Calls.{refuse, write, ruling, writeCall}
 use Rattle.rules.proofs.Steps.{need-no}
 use Rattle.rules.proofs.Tools.{by-test}
-use Rattle.put.proofs.Laws.{wrote-all}
+use Rattle.put.proofs.Wrote.{wrote-all}
 use Rattle.writer.specs.Added.{Added}
-use Rattle.writer.specs.Items.{May}
+use Rattle.writer.specs.AddedItems.{May}
 
 -- RULES 4.1: an encoding over the largest is 4
-long-refused : (bs : Bytes) → 1024 < length bs → read limits bs ≡ refused LIMIT (limits .bytes)
+long-refused : (bs : Bytes) → limits .bytes < length bs → read limits bs ≡ refused LIMIT (limits .bytes)
 unfolding read
-long-refused bs h = sym (need-no _ _ _ _ (lt-leb (length bs) 1024 h))
+long-refused bs h = sym (need-no _ _ _ _ (lt-leb (length bs) (limits .bytes) h))
 
 module _ (lent : Bytes) (c : Components) where
   abbrev w : Bytes
@@ -37,19 +37,19 @@ module _ (lent : Bytes) (c : Components) where
   unfolding writeCall written need _>>_
   ruled-written f g e = rw (g .0, g .1, e)
 
-  pub ruled-over : (May lent c → length w ≤ 1024 → ⊥) → writeCall limits c lent ≡ refuse LIMIT
+  pub ruled-over : (May lent c → length w ≤ limits .bytes → ⊥) → writeCall limits c lent ≡ refuse LIMIT
   unfolding writeCall written need _>>_
   ruled-over never =
       by-test (λ (t : Bool). ruling (need t LIMIT 0 >> (need (all (inside lent) (allTexts c)) LIMIT 0 >> (placeless (read limits w) >> ok w))) ≡ refuse LIMIT) (counted limits c)
       (λ n. by-test (λ (t : Bool). ruling (need t LIMIT 0 >> (placeless (read limits w) >> ok w)) ≡ refuse LIMIT) (all (inside lent) (allTexts c))
-      (λ i. by-test (λ (t : Bool). leb (length w) 1024 ≡ t → ruling (placeless (read limits w) >> ok w) ≡ refuse LIMIT) (leb (length w) 1024)
-      (λ _ e. absurd (never (n, i) (leb-true (length w) 1024 e)))
-      (λ _ e. rw (long-refused w (leb-false (length w) 1024 e))) refl)
+      (λ i. by-test (λ (t : Bool). leb (length w) (limits .bytes) ≡ t → ruling (placeless (read limits w) >> ok w) ≡ refuse LIMIT) (leb (length w) (limits .bytes))
+      (λ _ e. absurd (never (n, i) (leb-true (length w) (limits .bytes) e)))
+      (λ _ e. rw (long-refused w (leb-false (length w) (limits .bytes) e))) refl)
       (λ _. refl))
       (λ _. refl)
 
   -- where all may be added and fits, the array holds the encoding
-  pub made : {room after : Bytes} {n : ℕ} → length room ≡ 1024 → n ≤ 1024 → Added room 0 (May lent c) w after n → (n ≡ length w) × (take n after ≡ w)
+  pub made : {room after : Bytes} {n : ℕ} → length room ≡ limits .bytes → n ≤ limits .bytes → Added room 0 (May lent c) w after n → (n ≡ length w) × (take n after ≡ w)
   made {room} {after} {n} size h p =
       let g = p .good h in
       let f = p .fits h in
@@ -57,5 +57,5 @@ module _ (lent : Bytes) (c : Components) where
       (all .0, ap (take n) (all .1) ∙ take-at w (drop (length w) room) n (sym (all .0)))
 
   -- and is as long as before
-  pub made-size : {room after : Bytes} {n : ℕ} → length room ≡ 1024 → n ≤ 1024 → Added room 0 (May lent c) w after n → length after ≡ 1024
+  pub made-size : {room after : Bytes} {n : ℕ} → length room ≡ limits .bytes → n ≤ limits .bytes → Added room 0 (May lent c) w after n → length after ≡ limits .bytes
   made-size {room} {after} {n} size h p = ap length (p .bytes (p .good h) (p .fits h)) ∙ length-sets room 0 w ∙ size

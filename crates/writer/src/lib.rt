@@ -8,18 +8,18 @@ ghost use lib.ListN.{length};
 ghost use Rattle.rules.specs.Bytes.{Bytes, concat};
 ghost use Rattle.rules.specs.Head.{headBytes};
 ghost use Rattle.rules.specs.Model as Model;
-ghost use Rattle.rules.specs.Model.{address, mapScheme, mapAuthority, mapOpening, elements, limits};
+ghost use Rattle.rules.specs.Model.{address, mapScheme, mapAuthority, mapOpening, elements, limits, mostLabels, mostParameters};
 ghost use Rattle.rules.specs.Reader.{taken};
 ghost use Rattle.rules.specs.Encode.{textsItem, nullItem, orNull, tailItems, portItems, authorityItem, schemeItem, encode};
 ghost use Rattle.rules.specs.Writing.{schemeTexts, whereSet, inside, Lie};
 ghost use Rattle.rules.specs.Calls.{outcome, after, writeCall};
 ghost use Rattle.cbor.specs.Heads.{kindIs, spanIs};
 ghost use Rattle.cbor.specs.declared.Span as Code;
-ghost use Rattle.reader.specs.Code.{portOf};
-ghost use Rattle.outcomes.specs.Answer.{doneIs};
+ghost use Rattle.reader.specs.Answers.{portOf};
+ghost use Rattle.outcomes.specs.Answers.{doneIs};
 ghost use Rattle.components.specs.Content.{spansOf, schemeOf, authorityOf, openingOf, textsOf, fragmentOf, componentsOf};
 ghost use Rattle.writer.specs.Added.{Added};
-ghost use Rattle.writer.specs.Items.{Few, AuthorityMay, OpeningMay, TailMay, May, saidBy, tailOf, stringItem, textItems, authorityItems, discardItems, openingItems, fragmentItems};
+ghost use Rattle.writer.specs.AddedItems.{Few, AuthorityMay, OpeningMay, TailMay, May, saidBy, tailOf, stringItem, textItems, authorityItems, discardItems, openingItems, fragmentItems};
 use cbor::Kind;
 use cbor::Span;
 use components::Authority;
@@ -28,36 +28,35 @@ use components::Fragment;
 use components::Opening;
 use components::Scheme;
 use components::Texts;
+use numbers::BYTES;
+use numbers::LABELS;
+use numbers::LIMIT;
+use numbers::PARAMETERS;
+use numbers::SEGMENTS;
 use outcomes::Done;
 use put::put_part;
 use reader::Answer;
 use reader::Port;
-
-// The largest encoding.
-const MOST: usize = 1024;
-
-// How many labels, segments and parameters there may be.
-const LABELS: usize = 8;
-
-const SEGMENTS: usize = 32;
-
-const PARAMETERS: usize = 16;
+use schemes::SchemeId;
+use schemes::SchemeNumber;
+use schemes::scheme_id;
+use schemes::scheme_number;
 
 // An encoding, and zeros after it.
-type Encoding = [u8; MOST];
+type Encoding = [u8; BYTES];
 
 // A place over the largest encoding: what was to be added does not fit, stands outside the lent bytes, or has a count over its size.
-const OVER: usize = MOST + 1;
+const OVER: usize = BYTES + 1;
 
 // ---- pieces: each is added at a place, and answers the place after it
 
 fn add_head(out: &mut Encoding, at: usize, kind: Kind, v: u64) -> usize
     ensures { λ r. ⌜ Added (now (out .entry)) at (Unit {0}) (headBytes (kindIs kind) v) (now (out .exit)) r ⌝ }
 {
-    if MOST - heads::head_length(v) < at {
+    if BYTES - cbor_heads::head_length(v) < at {
         return OVER;
     }
-    heads::put_head(out, at, kind, v)
+    cbor_heads::put_head(out, at, kind, v)
 }
 
 // The bytes of a span.
@@ -70,10 +69,10 @@ fn add_part(out: &mut Encoding, at: usize, lent: &[u8], span: Span) -> usize
     if lent.len() - span.length < span.start {
         return OVER;
     }
-    if MOST < span.length {
+    if BYTES < span.length {
         return OVER;
     }
-    if MOST - span.length < at {
+    if BYTES - span.length < at {
         return OVER;
     }
     put_part(out, at, lent, span.start, span.length)
@@ -97,7 +96,7 @@ fn add_null(out: &mut Encoding, at: usize) -> usize
 
 // The first n labels.
 fn add_labels(out: &mut Encoding, at: usize, lent: &[u8], labels: [Span; LABELS], n: usize) -> usize
-    requires { ⌜ n ≤ 8 ⌝ }
+    requires { ⌜ n ≤ mostLabels ⌝ }
     ensures { λ r. ⌜ Added (now (out .entry)) at (Lie (now (lent .entry)) (spansOf n labels)) (textItems (now (lent .entry)) (spansOf n labels)) (now (out .exit)) r ⌝ }
 {
     let mut next = at;
@@ -137,7 +136,7 @@ fn add_parameters(
     parameters: [Span; PARAMETERS],
     n: usize,
 ) -> usize
-    requires { ⌜ n ≤ 16 ⌝ }
+    requires { ⌜ n ≤ mostParameters ⌝ }
     ensures { λ r. ⌜ Added (now (out .entry)) at (Lie (now (lent .entry)) (spansOf n parameters)) (textItems (now (lent .entry)) (spansOf n parameters)) (now (out .exit)) r ⌝ }
 {
     let mut next = at;
@@ -151,12 +150,26 @@ fn add_parameters(
 
 // ---- opening
 
+// What the head of a scheme number carries: the number of its id. A number whose id 64 bits do not hold is carried as
+// it is, and the reader refuses the encoding.
+fn carried(number: u64) -> u64
+    ensures { λ r. ⌜ r ≡ number ⌝ }
+{
+    match scheme_id(number) {
+        SchemeId::TooLarge => number,
+        SchemeId::Is(id) => match scheme_number(id) {
+            SchemeNumber::Is(n) => n,
+            SchemeNumber::NotNegative => number,
+        },
+    }
+}
+
 fn add_scheme(out: &mut Encoding, at: usize, lent: &[u8], scheme: Scheme) -> usize
     ensures { λ r. ⌜ Added (now (out .entry)) at (Lie (now (lent .entry)) (whereSet schemeTexts (schemeOf scheme))) (orNull schemeItem (Option·map (mapScheme (taken (now (lent .entry)))) (schemeOf scheme))) (now (out .exit)) r ⌝ }
 {
     match scheme {
         Scheme::Unset => add_null(out, at),
-        Scheme::Number(n) => add_head(out, at, Kind::Negative, n),
+        Scheme::Number(n) => add_head(out, at, Kind::Negative, carried(n)),
         Scheme::Name(span) => add_string(out, at, Kind::Text, lent, span),
     }
 }
@@ -196,7 +209,7 @@ fn add_name(
     n: usize,
     port: Port,
 ) -> usize
-    ensures { λ r. ⌜ Added (now (out .entry)) at (Few (now (lent .entry)) 8 (spansOf n labels)) (authorityItem (record { host = Model.labels (map (taken (now (lent .entry))) (spansOf n labels)); port = portOf port })) (now (out .exit)) r ⌝ }
+    ensures { λ r. ⌜ Added (now (out .entry)) at (Few (now (lent .entry)) mostLabels (spansOf n labels)) (authorityItem (record { host = Model.labels (map (taken (now (lent .entry))) (spansOf n labels)); port = portOf port })) (now (out .exit)) r ⌝ }
 {
     if LABELS < n {
         return OVER;
@@ -206,7 +219,7 @@ fn add_name(
     add_port(out, after, port)
 }
 
-// An authority, before so many further items.
+// An authority, before `further` items.
 fn add_authority(
     out: &mut Encoding,
     at: usize,
@@ -224,7 +237,7 @@ fn add_authority(
     }
 }
 
-// How many items a discard has before so many further items: 0 alone is left off.
+// How many items a discard is before `further` items: 0 alone is left off.
 fn discard_items(k: u64, further: u64) -> u64
     ensures { λ r. ⌜ r ≡ length (discardItems k further) ⌝ }
 {
@@ -246,7 +259,7 @@ fn add_discard(out: &mut Encoding, at: usize, k: u64, further: u64) -> usize
     add_head(out, at, Kind::Number, k)
 }
 
-// The opening, before so many further items.
+// The opening, before `further` items.
 fn add_opening(
     out: &mut Encoding,
     at: usize,
@@ -277,7 +290,7 @@ fn authority_items(authority: Authority, further: u64) -> u64
     }
 }
 
-// How many items an opening has before so many further items.
+// How many items an opening is before `further` items.
 fn opening_items(opening: Opening, further: u64) -> u64
     ensures { λ r. ⌜ ((lent : Bytes) (labels : List Code.Span) → r ≡ length (openingItems (mapOpening (taken lent) (openingOf labels opening)) further)) ⌝ }
 {
@@ -318,7 +331,7 @@ fn add_query(
     query: Texts,
     parameters: [Span; PARAMETERS],
 ) -> usize
-    ensures { λ r. ⌜ Added (now (out .entry)) at (Few (now (lent .entry)) (16) (elements (textsOf parameters query))) (orNull textsItem (Option·map (map (taken (now (lent .entry)))) (textsOf parameters query))) (now (out .exit)) r ⌝ }
+    ensures { λ r. ⌜ Added (now (out .entry)) at (Few (now (lent .entry)) mostParameters (elements (textsOf parameters query))) (orNull textsItem (Option·map (map (taken (now (lent .entry)))) (textsOf parameters query))) (now (out .exit)) r ⌝ }
 {
     match query {
         Texts::Unset => add_null(out, at),
@@ -357,7 +370,7 @@ fn further_items(path: Texts, query: Texts, fragment: Fragment) -> u64
     }
 }
 
-// So many of path, query and fragment.
+// The first `further` of path, query and fragment.
 fn add_further(out: &mut Encoding, at: usize, lent: &[u8], c: Components, further: u64) -> usize
     requires { ⌜ further ≡ length (tailOf (saidBy (now lent) c)) ⌝ }
     ensures { λ r. ⌜ Added (now (out .entry)) at (TailMay (now (lent .entry)) (componentsOf c)) (concat (tailOf (saidBy (now (lent .entry)) c))) (now (out .exit)) r ⌝ }
@@ -404,10 +417,10 @@ pub fn write(c: Components, lent: &[u8], room: &mut [u8]) -> Done
     ensures { λ r. ⌜ doneIs r ≡ outcome (writeCall limits (componentsOf c) (now (lent .entry))) (length (now (room .entry))) ⌝ }
     ensures { λ _. ⌜ now (room .exit) ≡ after (writeCall limits (componentsOf c) (now (lent .entry))) (now (room .entry)) ⌝ }
 {
-    let mut made = [0u8; MOST];
+    let mut made = [0u8; BYTES];
     let n = add_reference(&mut made, lent, c);
-    if MOST < n {
-        return outcomes::refused(4);
+    if BYTES < n {
+        return outcomes::refused(LIMIT);
     }
     let encoding = &made[..n];
     match reader::read(encoding) {

@@ -2,23 +2,11 @@
 use mathlib.Core.Path.{sym, ap, _∙_}
 use Rattle.rules.specs.Resolve.{asBase}
 use Rattle.rules.proofs.Steps.{need-yes, need-no, bind-ok, bind-refused}
-use Rattle.reader.specs.Code.{answerIs}
+use Rattle.reader.specs.Answers.{answerIs}
 use Rattle.absolutes.specs.Bases.{readBase}
 use borrow.Author.Needs.{needs}
 use Rattle.absolutes.proofs.read_base.Statement.{statement}
 use Rattle.absolutes.proofs.read_base.Tie as tie
-
-read-requires : tie.Need-read-requires
-read-requires c κs = search needs
-
-enum-known-place : tie.Need-enum-known-place
-enum-known-place c = search needs
-
-enum-known-found : tie.Need-enum-known-found
-enum-known-found c = search needs
-
-is-absolute-requires : tie.Need-is-absolute-requires
-is-absolute-requires c κs = search needs
 
 returns : tie.Need-returns
 unfolding readBase
@@ -40,10 +28,10 @@ pub read-base-spec : {M : Type 1} → statement M
 read-base-spec =
     tie.close
     (tie.spec
-    read-requires
-    enum-known-place
-    enum-known-found
-    is-absolute-requires
+    (λ c κs. search needs)
+    (λ c. search needs)
+    (λ c. search needs)
+    (λ c κs. search needs)
     returns
     returns-2
     returns-3)

@@ -13,8 +13,8 @@ use Rattle.cbor.specs.declared.Item.the-variants as ItemV
 use Rattle.cbor.proofs.Item.{the-type}
 use Rattle.cbor.specs.Heads.{allows, itemIs}
 use Rattle.cbor.proofs.Heads.{answered, head-accepted, head-never}
-use Rattle.bench.specs.Code.{afterItem}
-use Rattle.bench.proofs.Items.{textKind, text-kind, after-text, after-refused}
+use Rattle.bench.specs.Answers.{afterItem}
+use Rattle.bench.proofs.Answers.{textKind, text-kind, after-text, after-refused}
 use borrow.Author.Needs.{needs}
 use Rattle.bench.proofs.after_text.Statement.{statement}
 use Rattle.bench.proofs.after_text.Tie as tie
@@ -35,20 +35,11 @@ other s at (ItemV.True n) e k = head-never (head-accepted e) refl
 other s at (ItemV.Null n) e k = head-never (head-accepted e) refl
 other s at (ItemV.Refused x) e k = absurd (miss (0 ∷ 1 ∷ 2 ∷ 4 ∷ 5 ∷ 6 ∷ []) 7 tt k)
 
-item-at-requires : tie.Need-item-at-requires
-item-at-requires c κs = search needs
-
-enum-known-n : tie.Need-enum-known-n
-enum-known-n c = search needs
-
 after-content-requires : tie.Need-after-content-requires
 after-content-requires c κs =
     let i = c .before .before .before in
     let a = i .before .before .args in
     head-accepted (read (now (a .s)) (a .at) _ _ (i .item-at .ensures) (c .before .n .given .1)) .inside
-
-enum-known-k : tie.Need-enum-known-k
-enum-known-k c = search needs
 
 returns : tie.Need-returns
 returns c =
@@ -73,10 +64,10 @@ pub after-text-spec : {M : Type 1} → statement M
 after-text-spec =
     tie.close
     (tie.spec
-    item-at-requires
-    enum-known-n
+    (λ c κs. search needs)
+    (λ c. search needs)
     after-content-requires
-    enum-known-k
+    (λ c. search needs)
     returns
     returns-2
     returns-3)

@@ -6,16 +6,10 @@ use denote.Ref.{now}
 use Rattle.rules.specs.Bytes.{part}
 use Rattle.rules.proofs.Tools.{length-part}
 use Rattle.rules.proofs.Escapes.{escape-length}
-use Rattle.escape.specs.Escape.{classIs}
+use Rattle.uri_escape.specs.Escape.{classIs}
 use borrow.Author.Needs.{needs}
 use Rattle.bench.proofs.bench_put_escaped.Statement.{statement}
 use Rattle.bench.proofs.bench_put_escaped.Tie as tie
-
-class-of-requires : tie.Need-class-of-requires
-class-of-requires c κs = search needs
-
-bare-bits-requires : tie.Need-bare-bits-requires
-bare-bits-requires c κs = search needs
 
 escaped-length-requires : tie.Need-escaped-length-requires
 escaped-length-requires c κs = (c .before .bare-bits .ensures, (omega arith, omega arith))
@@ -27,16 +21,10 @@ returns c =
     let none : ⊥ = omega (arith, escape-length (classIs (k .class-of .result)) (part src 0 (length src)), length-part src 0 (length src) (omega arith)) in
     absurd none
 
-upper-hex-digits-requires : tie.Need-upper-hex-digits-requires
-upper-hex-digits-requires c κs = search needs
-
 put-escaped-requires : tie.Need-put-escaped-requires
 put-escaped-requires c κs =
     let d = c .before .before .before in
     ((d .before .before .before .before .bare-bits .ensures, d .upper-hex-digits .ensures), (omega arith, omega arith))
-
-same-length : tie.Need-same-length
-same-length c = search needs
 
 returns-2 : tie.Need-returns-2
 returns-2 c =
@@ -47,11 +35,11 @@ pub bench-put-escaped-spec : {M : Type 1} → statement M
 bench-put-escaped-spec =
     tie.close
     (tie.spec
-    class-of-requires
-    bare-bits-requires
+    (λ c κs. search needs)
+    (λ c κs. search needs)
     escaped-length-requires
     returns
-    upper-hex-digits-requires
+    (λ c κs. search needs)
     put-escaped-requires
-    same-length
+    (λ c. search needs)
     returns-2)

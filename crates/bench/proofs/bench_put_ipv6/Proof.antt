@@ -1,7 +1,7 @@
 -- `bench::bench_put_ipv6` meets its contract.
 use native.Mathlib.Omega.{arith}
 use denote.Ref.{now}
-use Rattle.ipv6.proofs.Texts.{ipv6-fits}
+use Rattle.ipv6.proofs.GroupTexts.{ipv6-fits}
 use borrow.Author.Needs.{needs}
 use Rattle.bench.proofs.bench_put_ipv6.Statement.{statement}
 use Rattle.bench.proofs.bench_put_ipv6.Tie as tie
@@ -9,11 +9,5 @@ use Rattle.bench.proofs.bench_put_ipv6.Tie as tie
 put-ipv6-requires : tie.Need-put-ipv6-requires
 put-ipv6-requires c κs = (omega arith, omega (arith, ipv6-fits (now (c .before .before .before .args .src)) 0 (omega arith)))
 
-same-length : tie.Need-same-length
-same-length c = search needs
-
-returns : tie.Need-returns
-returns c = search needs
-
 pub bench-put-ipv6-spec : {M : Type 1} → statement M
-bench-put-ipv6-spec = tie.close (tie.spec put-ipv6-requires same-length returns)
+bench-put-ipv6-spec = tie.close (tie.spec put-ipv6-requires (λ c. search needs) (λ c. search needs))

@@ -3,8 +3,8 @@ use mathlib.Core.Path.{_≡_, refl, sym, ap, _∙_}
 use native.Mathlib.Omega.{arith}
 use denote.Ref.{now}
 use Rattle.rules.specs.Head.{Text, is}
-use Rattle.bench.specs.Code.{items, answer, stepIs}
-use Rattle.bench.proofs.Items.{items-next, items-refused, items-end}
+use Rattle.bench.specs.Answers.{items, answer, stepIs}
+use Rattle.bench.proofs.Answers.{items-next, items-refused, items-end}
 use borrow.Author.Needs.{needs}
 use Rattle.bench.proofs.bench_texts.Statement.{statement}
 use Rattle.bench.proofs.bench_texts.Tie as tie
@@ -18,30 +18,12 @@ abbrev μ-loop : tie.MeasureT-loop
 loop-holds : tie.Need-loop-holds Inv-loop μ-loop
 loop-holds c = refl
 
-after-text-requires : tie.Need-after-text-requires Inv-loop μ-loop
-after-text-requires c κs = search needs
-
-enum-known-k : tie.Need-enum-known-k Inv-loop μ-loop
-enum-known-k c = search needs
-
-cast-t9 : tie.Need-cast-t9 Inv-loop μ-loop
-cast-t9 c = search needs
-
 returns : tie.Need-returns Inv-loop μ-loop
 returns c =
     let a = c .before .before .before in
     let l = a .before .before .loop in
     let e = ap (stepIs (l .at)) (sym (c .before .k .given .1)) ∙ a .after-text .ensures in
     ap answer (sym (l .inv ∙ items-refused (is Text) (now (a .before .before .before .before .args .s)) (l .at) _ (l .left) (a .before .loop-test .taken) e))
-
-enum-known-next : tie.Need-enum-known-next Inv-loop μ-loop
-enum-known-next c = search needs
-
-sub-left : tie.Need-sub-left Inv-loop μ-loop
-sub-left c = search needs
-
-loop-less : tie.Need-loop-less Inv-loop μ-loop
-loop-less c = search needs
 
 loop-again : tie.Need-loop-again Inv-loop μ-loop
 loop-again c =
@@ -58,4 +40,4 @@ returns-2 c =
 pub bench-texts-spec : {M : Type 1} → statement M
 bench-texts-spec =
     tie.close
-    (tie.spec Inv-loop μ-loop loop-holds after-text-requires enum-known-k cast-t9 returns enum-known-next sub-left loop-less loop-again returns-2)
+    (tie.spec Inv-loop μ-loop loop-holds (λ c κs. search needs) (λ c. search needs) (λ c. search needs) returns (λ c. search needs) (λ c. search needs) (λ c. search needs) loop-again returns-2)

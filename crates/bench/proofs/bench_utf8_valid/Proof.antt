@@ -8,12 +8,6 @@ use borrow.Author.Tests.{lt-leb, le-leb}
 use Rattle.bench.proofs.bench_utf8_valid.Statement.{statement}
 use Rattle.bench.proofs.bench_utf8_valid.Tie as tie
 
-sub-if2 : tie.Need-sub-if2
-sub-if2 c = search needs
-
-valid-requires : tie.Need-valid-requires
-valid-requires c κs = search needs
-
 returns : tie.Need-returns
 returns c =
     let a = c .before .before .before .before .args in
@@ -26,4 +20,4 @@ returns-3 : tie.Need-returns-3
 returns-3 c = let a = c .before .before .args in simp (lt-leb (a .from + a .n) (length (now (a .s))) (omega arith))
 
 pub bench-utf8-valid-spec : {M : Type 1} → statement M
-bench-utf8-valid-spec = tie.close (tie.spec sub-if2 valid-requires returns returns-2 returns-3)
+bench-utf8-valid-spec = tie.close (tie.spec (λ c. search needs) (λ c κs. search needs) returns returns-2 returns-3)

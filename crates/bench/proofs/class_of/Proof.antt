@@ -2,7 +2,7 @@
 use Prim.Native.Nat.{ℕ, zero, suc}
 use mathlib.Core.Path.{_≡_, refl}
 use Rattle.rules.specs.Text.{Fragment}
-use Rattle.bench.specs.Code.{classOf}
+use Rattle.bench.specs.Answers.{classOf}
 use borrow.Author.Needs.{needs}
 use Rattle.bench.proofs.class_of.Statement.{statement}
 use Rattle.bench.proofs.class_of.Tie as tie
@@ -14,17 +14,8 @@ other (suc zero) a b c = absurd (b refl)
 other (suc (suc zero)) a b c = absurd (c refl)
 other (suc (suc (suc k))) a b c = refl
 
-returns : tie.Need-returns
-returns c = search needs
-
-returns-2 : tie.Need-returns-2
-returns-2 c = search needs
-
-returns-3 : tie.Need-returns-3
-returns-3 c = search needs
-
 returns-4 : tie.Need-returns-4
 returns-4 c = let r = c .match .rest in other _ (r .0 .0 .1) (r .0 .1) (r .1)
 
 pub class-of-spec : {M : Type 1} → statement M
-class-of-spec = tie.close (tie.spec returns returns-2 returns-3 returns-4)
+class-of-spec = tie.close (tie.spec (λ c. search needs) (λ c. search needs) (λ c. search needs) returns-4)

@@ -6,19 +6,10 @@ use borrow.Author.Needs.{needs}
 use Rattle.bench_calls.proofs.bench_resolve.Statement.{statement}
 use Rattle.bench_calls.proofs.bench_resolve.Tie as tie
 
-resolve-requires : tie.Need-resolve-requires
-resolve-requires c κs = search needs
-
-told-requires : tie.Need-told-requires
-told-requires c κs = search needs
-
-same-length : tie.Need-same-length
-same-length c = search needs
-
 returns : tie.Need-returns
 returns c =
     let e = c .before .before .before .resolve .ensures in
     (c .told .ensures ∙ ap (λ (d : Done). d .number + 256 * (d .length % 65536)) (e .0), e .1)
 
 pub bench-resolve-spec : {M : Type 1} → statement M
-bench-resolve-spec = tie.close (tie.spec resolve-requires told-requires same-length returns)
+bench-resolve-spec = tie.close (tie.spec (λ c κs. search needs) (λ c κs. search needs) (λ c. search needs) returns)

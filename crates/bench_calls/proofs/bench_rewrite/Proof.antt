@@ -5,14 +5,8 @@ use borrow.Author.Needs.{needs}
 use Rattle.bench_calls.proofs.bench_rewrite.Statement.{statement}
 use Rattle.bench_calls.proofs.bench_rewrite.Tie as tie
 
-rewrite-requires : tie.Need-rewrite-requires
-rewrite-requires c κs = search needs
-
-same-length : tie.Need-same-length
-same-length c = search needs
-
 returns : tie.Need-returns
 returns c = let e = c .before .before .rewrite .ensures in (ap (λ (d : Done). d .length) (e .0), e .1)
 
 pub bench-rewrite-spec : {M : Type 1} → statement M
-bench-rewrite-spec = tie.close (tie.spec rewrite-requires same-length returns)
+bench-rewrite-spec = tie.close (tie.spec (λ c κs. search needs) (λ c. search needs) returns)

@@ -24,15 +24,6 @@ counted : (o : Option (List Span)) → countOf (textsLaid o) ≡ length (element
 counted none = refl
 counted (some ts) = refl
 
-read-requires : tie.Need-read-requires
-read-requires c κs = search needs
-
-enum-told : tie.Need-enum-told
-enum-told c = search needs
-
-enum-known-path : tie.Need-enum-known-path
-enum-known-path c = search needs
-
 returns : tie.Need-returns
 returns c =
     let r = c .before .before .before in
@@ -44,4 +35,4 @@ returns-2 c =
     ap countOf (sym (c .before .path .given .1)) ∙ ap (λ (x : Reading). countOf (x .components .path)) (r .read .ensures) ∙ counted (readCall limits (now (r .before .before .args .s)) .components .path)
 
 pub bench-segments-spec : {M : Type 1} → statement M
-bench-segments-spec = tie.close (tie.spec read-requires enum-told enum-known-path returns returns-2)
+bench-segments-spec = tie.close (tie.spec (λ c κs. search needs) (λ c. search needs) (λ c. search needs) returns returns-2)

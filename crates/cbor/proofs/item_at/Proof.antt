@@ -31,30 +31,12 @@ read c x e =
 returns : tie.Need-returns
 returns c = head-missing _ _ _ (c .if1 .taken)
 
-shared-slice-read-b : tie.Need-shared-slice-read-b
-shared-slice-read-b c = search needs
-
-kind-of-requires : tie.Need-kind-of-requires
-kind-of-requires c κs = search needs
-
-is-allowed-requires : tie.Need-is-allowed-requires
-is-allowed-requires c κs = search needs
-
-argument-at-requires : tie.Need-argument-at-requires
-argument-at-requires c κs = search needs
-
-enum-known-v : tie.Need-enum-known-v
-enum-known-v c = search needs
-
 item-of-requires : tie.Need-item-of-requires
 item-of-requires c κs =
     let r = c .before .before .before in
     let l = r .before .before .before .before .before in
     let a = l .before .before .args in
     head-fits (allows (a .allowed)) (now (a .s)) (a .at) (octets-of (now (a .s)) (λ i. omega (arith, l .before .shared-slice-known .given i))) refl (read r _ (c .before .v .given .1))
-
-enum-known-n : tie.Need-enum-known-n
-enum-known-n c = search needs
 
 returns-2 : tie.Need-returns-2
 returns-2 c =
@@ -75,13 +57,13 @@ item-at-spec =
     tie.close
     (tie.spec
     returns
-    shared-slice-read-b
-    kind-of-requires
-    is-allowed-requires
-    argument-at-requires
-    enum-known-v
+    (λ c. search needs)
+    (λ c κs. search needs)
+    (λ c κs. search needs)
+    (λ c κs. search needs)
+    (λ c. search needs)
     item-of-requires
-    enum-known-n
+    (λ c. search needs)
     returns-2
     returns-3
     returns-4)

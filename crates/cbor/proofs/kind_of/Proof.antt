@@ -25,11 +25,8 @@ returns-5 : tie.Need-returns-5
 unfolding kindOf
 returns-5 c = simp (le-ltb _ _ (c .before .before .before .before .if1 .left), le-ltb _ _ (c .before .before .before .if2 .left), le-ltb _ _ (c .before .before .if3 .left), le-ltb _ _ (c .before .if4 .left), lt-ltb _ _ (c .if5 .taken))
 
-simple-of-requires : tie.Need-simple-of-requires
-simple-of-requires c κs = search needs
-
 returns-6 : tie.Need-returns-6
 returns-6 c = c .simple-of .ensures
 
 pub kind-of-spec : {M : Type 1} → statement M
-kind-of-spec = tie.close (tie.spec simple-of-requires returns returns-2 returns-3 returns-4 returns-5 returns-6)
+kind-of-spec = tie.close (tie.spec (λ c κs. search needs) returns returns-2 returns-3 returns-4 returns-5 returns-6)

@@ -12,15 +12,6 @@ use borrow.Author.Needs.{needs}
 use Rattle.cbor.proofs.long_at.Statement.{statement}
 use Rattle.cbor.proofs.long_at.Tie as tie
 
-add-from : tie.Need-add-from
-add-from c = search needs
-
-width-of-requires : tie.Need-width-of-requires
-width-of-requires c κs = search needs
-
-sub-if1 : tie.Need-sub-if1
-sub-if1 c = search needs
-
 returns : tie.Need-returns
 returns c =
     λ k.
@@ -32,12 +23,6 @@ number-at-requires : tie.Need-number-at-requires
 number-at-requires c κs =
     let s = c .before .before .before in
     (omega arith, omega (arith, c .before .width-of .ensures, width-most (s .args .info) (s .pre .2)))
-
-least-of-requires : tie.Need-least-of-requires
-least-of-requires c κs = search needs
-
-add-t7 : tie.Need-add-t7
-add-t7 c = search needs
 
 returns-2 : tie.Need-returns-2
 returns-2 c =
@@ -63,4 +48,4 @@ returns-3 c =
     (omega (arith, c .before .least-of .ensures))
 
 pub long-at-spec : {M : Type 1} → statement M
-long-at-spec = tie.close (tie.spec add-from width-of-requires sub-if1 returns number-at-requires least-of-requires returns-2 add-t7 returns-3)
+long-at-spec = tie.close (tie.spec (λ c. search needs) (λ c κs. search needs) (λ c. search needs) returns number-at-requires (λ c κs. search needs) returns-2 (λ c. search needs) returns-3)

@@ -6,7 +6,7 @@ use lib.ListN.{getD}
 use denote.Ref.{now}
 use Rattle.rules.specs.Bytes.{part, numberFrom}
 use Rattle.rules.proofs.Tools.{part-whole}
-use Rattle.cbor.proofs.Numbers.{number-step, number-end, Room, room, none-passed, one-passed}
+use Rattle.cbor.proofs.BigEndian.{number-step, number-end, Room, room, none-passed, one-passed}
 use borrow.Author.Needs.{needs}
 use Rattle.cbor.proofs.number_at.Statement.{statement}
 use Rattle.cbor.proofs.number_at.Tie as tie
@@ -18,9 +18,6 @@ Inv-loop s from w end i₀ v₀ i v =
 abbrev μ-loop : tie.MeasureT-loop
 μ-loop s from w end i₀ v₀ i v = end - i
 
-add-end : tie.Need-add-end Inv-loop μ-loop
-add-end c = search needs
-
 loop-holds : tie.Need-loop-holds Inv-loop μ-loop
 loop-holds c = let a = c .args in (omega arith, omega arith, none-passed (a .from), ap (numberFrom 0) (part-whole (now (a .s)) (a .from) (a .w)))
 
@@ -30,9 +27,6 @@ mul-v c =
     let l = c .before .loop in
     let r : Room (l .i - a .from) (l .v) 0 = room (l .i - a .from) (l .v) 0 (omega arith) (l .inv .2) (omega arith) in
     omega (arith, r .shifted)
-
-shared-slice-read-v : tie.Need-shared-slice-read-v Inv-loop μ-loop
-shared-slice-read-v c = search needs
 
 cast-v : tie.Need-cast-v Inv-loop μ-loop
 cast-v c = omega (arith, c .shared-slice-known .given (c .before .before .loop .i))
@@ -44,12 +38,6 @@ add-v c =
     let b = c .shared-slice-known .given (l .i) in
     let r : Room (l .i - a .from) (l .v) (getD (now (a .s)) (l .i) 0) = room (l .i - a .from) (l .v) (getD (now (a .s)) (l .i) 0) (omega arith) (l .inv .2) (omega (arith, b)) in
     omega (arith, r .fits)
-
-add-i : tie.Need-add-i Inv-loop μ-loop
-add-i c = search needs
-
-loop-less : tie.Need-loop-less Inv-loop μ-loop
-loop-less c = search needs
 
 loop-again : tie.Need-loop-again Inv-loop μ-loop
 loop-again c =
@@ -68,4 +56,4 @@ returns c =
 pub number-at-spec : {M : Type 1} → statement M
 number-at-spec =
     tie.close
-    (tie.spec Inv-loop μ-loop add-end loop-holds mul-v shared-slice-read-v cast-v add-v add-i loop-less loop-again returns)
+    (tie.spec Inv-loop μ-loop (λ c. search needs) loop-holds mul-v (λ c. search needs) cast-v add-v (λ c. search needs) (λ c. search needs) loop-again returns)

@@ -13,9 +13,6 @@ shared-slice-read-info c = omega (arith, item-head _ _ (c .before .before .pre))
 add-from : tie.Need-add-from
 add-from c = omega (arith, item-head _ _ (c .before .before .pre))
 
-cast-t10 : tie.Need-cast-t10
-cast-t10 c = search needs
-
 returns : tie.Need-returns
 returns c = span-small _ _ (c .if1 .taken)
 
@@ -42,9 +39,6 @@ returns-2 c =
     let start = if2′ .before .before .before .before in
     span-byte _ _ (if2′ .if2 .taken) (omega (arith, item-head _ _ (start .pre), width-byte (now (start .args .s)) (start .args .at) (if2′ .if2 .taken)))
 
-width-of-requires : tie.Need-width-of-requires
-width-of-requires c κs = search needs
-
 number-at-requires : tie.Need-number-at-requires
 number-at-requires c κs =
     let start = c .before .before .before .before .before in
@@ -66,13 +60,13 @@ span-at-spec =
     (tie.spec
     shared-slice-read-info
     add-from
-    cast-t10
+    (λ c. search needs)
     returns
     add-t11
     shared-slice-read-t13
     cast-t14
     returns-2
-    width-of-requires
+    (λ c κs. search needs)
     number-at-requires
     add-t15
     returns-3)

@@ -5,27 +5,6 @@ use borrow.Author.Needs.{needs}
 use Rattle.components.proofs.components_of.Statement.{statement}
 use Rattle.components.proofs.components_of.Tie as tie
 
-labels-of-requires : tie.Need-labels-of-requires
-labels-of-requires c κs = search needs
-
-segments-of-requires : tie.Need-segments-of-requires
-segments-of-requires c κs = search needs
-
-parameters-of-requires : tie.Need-parameters-of-requires
-parameters-of-requires c κs = search needs
-
-opening-of-requires : tie.Need-opening-of-requires
-opening-of-requires c κs = search needs
-
-texts-of-requires : tie.Need-texts-of-requires
-texts-of-requires c κs = search needs
-
-texts-of-requires-2 : tie.Need-texts-of-requires-2
-texts-of-requires-2 c κs = search needs
-
-fragment-of-requires : tie.Need-fragment-of-requires
-fragment-of-requires c κs = search needs
-
 returns : tie.Need-returns
 unfolding components
 returns c =
@@ -45,11 +24,11 @@ pub components-of-spec : {M : Type 1} → statement M
 components-of-spec =
     tie.close
     (tie.spec
-    labels-of-requires
-    segments-of-requires
-    parameters-of-requires
-    opening-of-requires
-    texts-of-requires
-    texts-of-requires-2
-    fragment-of-requires
+    (λ c κs. search needs)
+    (λ c κs. search needs)
+    (λ c κs. search needs)
+    (λ c κs. search needs)
+    (λ c κs. search needs)
+    (λ c κs. search needs)
+    (λ c κs. search needs)
     returns)

@@ -4,15 +4,6 @@ use borrow.Author.Needs.{needs}
 use Rattle.components.proofs.host_labels.Statement.{statement}
 use Rattle.components.proofs.host_labels.Tie as tie
 
-enum-told : tie.Need-enum-told
-enum-told c = search needs
-
-label-spans-requires : tie.Need-label-spans-requires
-label-spans-requires c κs = search needs
-
-enum-known-host : tie.Need-enum-known-host
-enum-known-host c = search needs
-
 label-spans-requires-2 : tie.Need-label-spans-requires-2
 label-spans-requires-2 c κs = rw (c .before .host .given .1) at (c .before .before .before .before .pre)
 
@@ -27,9 +18,9 @@ pub host-labels-spec : {M : Type 1} → statement M
 host-labels-spec =
     tie.close
     (tie.spec
-    enum-told
-    label-spans-requires
-    enum-known-host
+    (λ c. search needs)
+    (λ c κs. search needs)
+    (λ c. search needs)
     label-spans-requires-2
     returns
     returns-2)

@@ -20,22 +20,10 @@ loop-holds c = fill-start 8 _ _ _ (c .before .pre .each)
 span-at-requires : tie.Need-span-at-requires Inv-loop μ-loop
 span-at-requires c κs = fill-item (c .before .loop .inv) (c .loop-test .taken)
 
-mul-found : tie.Need-mul-found Inv-loop μ-loop
-mul-found c = search needs
-
-array-set-from-found : tie.Need-array-set-from-found Inv-loop μ-loop
-array-set-from-found c = search needs
-
 add-next : tie.Need-add-next Inv-loop μ-loop
 add-next c =
     let l = c .before .before in
     omega (arith, fill-inside (l .before .loop .inv) (l .loop-test .taken) _ (c .before .span-at .ensures))
-
-add-i : tie.Need-add-i Inv-loop μ-loop
-add-i c = search needs
-
-loop-less : tie.Need-loop-less Inv-loop μ-loop
-loop-less c = search needs
 
 loop-again : tie.Need-loop-again Inv-loop μ-loop
 loop-again c =
@@ -53,10 +41,10 @@ label-spans-spec =
     μ-loop
     loop-holds
     span-at-requires
-    mul-found
-    array-set-from-found
+    (λ c. search needs)
+    (λ c. search needs)
     add-next
-    add-i
-    loop-less
+    (λ c. search needs)
+    (λ c. search needs)
     loop-again
     returns)

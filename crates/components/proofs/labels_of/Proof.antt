@@ -4,21 +4,6 @@ use borrow.Author.Needs.{needs}
 use Rattle.components.proofs.labels_of.Statement.{statement}
 use Rattle.components.proofs.labels_of.Tie as tie
 
-enum-told : tie.Need-enum-told
-enum-told c = search needs
-
-label-spans-requires : tie.Need-label-spans-requires
-label-spans-requires c κs = search needs
-
-enum-told-2 : tie.Need-enum-told-2
-enum-told-2 c = search needs
-
-label-spans-requires-2 : tie.Need-label-spans-requires-2
-label-spans-requires-2 c κs = search needs
-
-enum-known-opening : tie.Need-enum-known-opening
-enum-known-opening c = search needs
-
 host-labels-requires : tie.Need-host-labels-requires
 host-labels-requires c κs = (rw (c .before .opening .given .1) at (c .before .before .before .before .pre)) .1
 
@@ -37,11 +22,11 @@ pub labels-of-spec : {M : Type 1} → statement M
 labels-of-spec =
     tie.close
     (tie.spec
-    enum-told
-    label-spans-requires
-    enum-told-2
-    label-spans-requires-2
-    enum-known-opening
+    (λ c. search needs)
+    (λ c κs. search needs)
+    (λ c. search needs)
+    (λ c κs. search needs)
+    (λ c. search needs)
     host-labels-requires
     returns
     returns-2

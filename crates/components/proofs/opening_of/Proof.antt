@@ -3,21 +3,6 @@ use borrow.Author.Needs.{needs}
 use Rattle.components.proofs.opening_of.Statement.{statement}
 use Rattle.components.proofs.opening_of.Tie as tie
 
-enum-known-opening : tie.Need-enum-known-opening
-enum-known-opening c = search needs
-
-enum-told : tie.Need-enum-told
-enum-told c = search needs
-
-enum-known-opening-2 : tie.Need-enum-known-opening-2
-enum-known-opening-2 c = search needs
-
-scheme-of-requires : tie.Need-scheme-of-requires
-scheme-of-requires c κs = search needs
-
-authority-of-requires : tie.Need-authority-of-requires
-authority-of-requires c κs = search needs
-
 returns : tie.Need-returns
 returns c = λ bs. simp (c .before .opening .given .1)
 
@@ -31,11 +16,11 @@ pub opening-of-spec : {M : Type 1} → statement M
 opening-of-spec =
     tie.close
     (tie.spec
-    enum-known-opening
-    enum-told
-    enum-known-opening-2
-    scheme-of-requires
-    authority-of-requires
+    (λ c. search needs)
+    (λ c. search needs)
+    (λ c. search needs)
+    (λ c κs. search needs)
+    (λ c κs. search needs)
     returns
     returns-2
     returns-3)

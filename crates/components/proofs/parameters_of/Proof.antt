@@ -4,15 +4,6 @@ use borrow.Author.Needs.{needs}
 use Rattle.components.proofs.parameters_of.Statement.{statement}
 use Rattle.components.proofs.parameters_of.Tie as tie
 
-enum-told : tie.Need-enum-told
-enum-told c = search needs
-
-parameter-spans-requires : tie.Need-parameter-spans-requires
-parameter-spans-requires c κs = search needs
-
-enum-known-query : tie.Need-enum-known-query
-enum-known-query c = search needs
-
 parameter-spans-requires-2 : tie.Need-parameter-spans-requires-2
 parameter-spans-requires-2 c κs = rw (c .before .query .given .1) at (c .before .before .before .before .pre)
 
@@ -27,9 +18,9 @@ pub parameters-of-spec : {M : Type 1} → statement M
 parameters-of-spec =
     tie.close
     (tie.spec
-    enum-told
-    parameter-spans-requires
-    enum-known-query
+    (λ c. search needs)
+    (λ c κs. search needs)
+    (λ c. search needs)
     parameter-spans-requires-2
     returns
     returns-2)

@@ -2,34 +2,22 @@
 use native.Mathlib.Omega.{arith}
 use mathlib.Core.Path.{sym, ap, _∙_}
 use denote.Ref.{now}
-use Rattle.rules.proofs.Numbers.{call-accepted, call-refused}
+use Rattle.rules.proofs.RefusalNumbers.{call-accepted, call-refused}
 use Rattle.rules.proofs.Standing.{stands}
 use Rattle.rules.proofs.Steps.{ok-at}
 use Rattle.rules.proofs.Tools.{octets-of}
 use Rattle.rules.specs.Model.{limits}
-use Rattle.reader.specs.Code.{answerIs}
+use Rattle.reader.specs.Answers.{answerIs}
 use Rattle.components.specs.Layout.{readingLaid}
 use borrow.Author.Needs.{needs}
 use Rattle.components.proofs.read.Statement.{statement}
 use Rattle.components.proofs.read.Tie as tie
-
-read-requires : tie.Need-read-requires
-read-requires c κs = search needs
-
-enum-known-found : tie.Need-enum-known-found
-enum-known-found c = search needs
 
 components-of-requires : tie.Need-components-of-requires
 components-of-requires c κs =
     let m = c .before .before .before in
     let s = now (m .before .before .args .s) in
     ok-at (stands limits s (octets-of s (λ i. omega (arith, m .before .shared-slice-known .given i)))) (sym (m .read .ensures) ∙ ap answerIs (c .before .found .given .1))
-
-enum-known-n : tie.Need-enum-known-n
-enum-known-n c = search needs
-
-no-components-requires : tie.Need-no-components-requires
-no-components-requires c κs = search needs
 
 returns : tie.Need-returns
 returns c =
@@ -48,10 +36,10 @@ pub read-spec : {M : Type 1} → statement M
 read-spec =
     tie.close
     (tie.spec
-    read-requires
-    enum-known-found
+    (λ c κs. search needs)
+    (λ c. search needs)
     components-of-requires
-    enum-known-n
-    no-components-requires
+    (λ c. search needs)
+    (λ c κs. search needs)
     returns
     returns-2)

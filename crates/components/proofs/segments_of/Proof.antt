@@ -4,15 +4,6 @@ use borrow.Author.Needs.{needs}
 use Rattle.components.proofs.segments_of.Statement.{statement}
 use Rattle.components.proofs.segments_of.Tie as tie
 
-enum-told : tie.Need-enum-told
-enum-told c = search needs
-
-segment-spans-requires : tie.Need-segment-spans-requires
-segment-spans-requires c κs = search needs
-
-enum-known-path : tie.Need-enum-known-path
-enum-known-path c = search needs
-
 segment-spans-requires-2 : tie.Need-segment-spans-requires-2
 segment-spans-requires-2 c κs = rw (c .before .path .given .1) at (c .before .before .before .before .pre)
 
@@ -27,9 +18,9 @@ pub segments-of-spec : {M : Type 1} → statement M
 segments-of-spec =
     tie.close
     (tie.spec
-    enum-told
-    segment-spans-requires
-    enum-known-path
+    (λ c. search needs)
+    (λ c κs. search needs)
+    (λ c. search needs)
     segment-spans-requires-2
     returns
     returns-2)

@@ -4,12 +4,6 @@ use borrow.Author.Needs.{needs}
 use Rattle.components.proofs.texts_of.Statement.{statement}
 use Rattle.components.proofs.texts_of.Tie as tie
 
-enum-told : tie.Need-enum-told
-enum-told c = search needs
-
-enum-known-slot : tie.Need-enum-known-slot
-enum-known-slot c = search needs
-
 returns : tie.Need-returns
 returns c = λ bs. simp (c .enum-told .given .1)
 
@@ -17,4 +11,4 @@ returns-2 : tie.Need-returns-2
 returns-2 c = λ bs. simp (c .before .slot .given .1, length-spans)
 
 pub texts-of-spec : {M : Type 1} → statement M
-texts-of-spec = tie.close (tie.spec enum-told enum-known-slot returns returns-2)
+texts-of-spec = tie.close (tie.spec (λ c. search needs) (λ c. search needs) returns returns-2)

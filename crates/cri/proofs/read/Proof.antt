@@ -6,8 +6,5 @@ use Rattle.cri.proofs.read.Tie as tie
 returns : tie.Need-returns
 returns c = search needs depth 2
 
-read-requires : tie.Need-read-requires
-read-requires c κs = search needs
-
 pub read-spec : {M : Type 1} → statement M
-read-spec = tie.close (tie.spec read-requires returns)
+read-spec = tie.close (tie.spec (λ c κs. search needs) returns)

@@ -2,13 +2,10 @@
 use native.Mathlib.Omega.{arith}
 use denote.Ref.{now}
 use Rattle.rules.proofs.Tools.{octets-of}
-use Rattle.ipv4.proofs.Texts.{ipv4-fits}
+use Rattle.ipv4.proofs.Dotted.{ipv4-fits}
 use borrow.Author.Needs.{needs}
 use Rattle.ipv4.proofs.ipv4_length.Statement.{statement}
 use Rattle.ipv4.proofs.ipv4_length.Tie as tie
-
-slice-aggregate-put-ipv4 : tie.Need-slice-aggregate-put-ipv4
-slice-aggregate-put-ipv4 c = search needs
 
 put-ipv4-requires : tie.Need-put-ipv4-requires
 put-ipv4-requires c κs =
@@ -16,8 +13,5 @@ put-ipv4-requires c κs =
     let s = k .before in
     (s .pre, omega (arith, ipv4-fits (now (s .args .src)) (s .args .from) (s .pre) (octets-of (now (s .args .src)) (λ i. k .shared-slice-known .given i .fits))))
 
-returns : tie.Need-returns
-returns c = search needs
-
 pub ipv4-length-spec : {M : Type 1} → statement M
-ipv4-length-spec = tie.close (tie.spec slice-aggregate-put-ipv4 put-ipv4-requires returns)
+ipv4-length-spec = tie.close (tie.spec (λ c. search needs) put-ipv4-requires (λ c. search needs))

@@ -8,7 +8,7 @@ use Rattle.rules.specs.Bytes.{part, dot}
 use Rattle.rules.specs.Numeral.{decimal}
 use Rattle.put.specs.Joined.{further}
 use Rattle.put.proofs.Joined.{further-none, further-step}
-use Rattle.put.proofs.Laws.{Left, Next, left-whole, next, next-room, next-wrote, last, wrote-then}
+use Rattle.put.proofs.Wrote.{Left, Next, left-whole, next, next-room, next-wrote, last, wrote-then}
 use borrow.Author.Needs.{needs}
 use Rattle.ipv4.proofs.put_further_octets.Statement.{statement}
 use Rattle.ipv4.proofs.put_further_octets.Tie as tie
@@ -20,9 +20,6 @@ Inv-loop room₀ at src from n end i₀ o₀ room i o =
 abbrev μ-loop : tie.MeasureT-loop
 μ-loop room₀ at src from n end i₀ o₀ room i o = end - i
 
-add-end : tie.Need-add-end Inv-loop μ-loop
-add-end c = search needs
-
 loop-holds : tie.Need-loop-holds Inv-loop μ-loop
 loop-holds c = let a = c .before .before .args in (omega arith, left-whole (further dot decimal) (now (a .src)) (a .from) (a .n))
 
@@ -33,9 +30,6 @@ turn t =
     let l = t .before .loop in
     let s = t .before .before .before .before in
     next (further dot decimal) (λ b. dot ∷ decimal b) (further-step dot decimal) (further-none dot decimal) (now (s .args .src)) (l .i) (s .args .from + s .args .n) (t .loop-test .taken) (s .pre .0) (l .inv .1)
-
-shared-slice-read-b : tie.Need-shared-slice-read-b Inv-loop μ-loop
-shared-slice-read-b c = search needs
 
 cast-b : tie.Need-cast-b Inv-loop μ-loop
 cast-b c = omega (arith, c .shared-slice-known2 .given (c .before .before .loop .i))
@@ -49,12 +43,6 @@ put-decimal-requires : tie.Need-put-decimal-requires Inv-loop μ-loop
 put-decimal-requires c κs =
     let t = c .before .before .before .before .before .before in
     omega (arith, next-room (turn t) (t .before .before .before .before .pre .1))
-
-add-i : tie.Need-add-i Inv-loop μ-loop
-add-i c = search needs
-
-loop-less : tie.Need-loop-less Inv-loop μ-loop
-loop-less c = search needs
 
 loop-again : tie.Need-loop-again Inv-loop μ-loop
 loop-again c =
@@ -77,14 +65,14 @@ put-further-octets-spec =
     (tie.spec
     Inv-loop
     μ-loop
-    add-end
+    (λ c. search needs)
     loop-holds
-    shared-slice-read-b
+    (λ c. search needs)
     cast-b
     put-byte-requires
     put-decimal-requires
-    add-i
-    loop-less
+    (λ c. search needs)
+    (λ c. search needs)
     loop-again
     same-length
     returns)

@@ -8,8 +8,8 @@ use Rattle.rules.specs.Bytes.{part, dot}
 use Rattle.rules.specs.Numeral.{decimal}
 use Rattle.rules.specs.Address.{ipv4Text}
 use Rattle.put.specs.Joined.{further}
-use Rattle.put.proofs.Laws.{wrote-then}
-use Rattle.ipv4.proofs.Texts.{ipv4-pieces}
+use Rattle.put.proofs.Wrote.{wrote-then}
+use Rattle.ipv4.proofs.Dotted.{ipv4-pieces}
 use borrow.Author.Needs.{needs}
 use Rattle.ipv4.proofs.put_ipv4.Statement.{statement}
 use Rattle.ipv4.proofs.put_ipv4.Tie as tie
@@ -20,23 +20,14 @@ lengths s =
     let a = s .args in
     ap length (ipv4-pieces (now (a .src)) (a .from) (s .pre .0)) ∙ length-append (decimal (getD (now (a .src)) (a .from) 0)) (further dot decimal (part (now (a .src)) (a .from + 1) 3))
 
-shared-slice-read-b : tie.Need-shared-slice-read-b
-shared-slice-read-b c = search needs
-
 cast-b : tie.Need-cast-b
 cast-b c = omega (arith, c .shared-slice-known2 .given (c .before .before .before .args .from))
 
 put-decimal-requires : tie.Need-put-decimal-requires
 put-decimal-requires c κs = omega (arith, lengths (c .before .before .before .before))
 
-add-put-further-octets : tie.Need-add-put-further-octets
-add-put-further-octets c = search needs
-
 put-further-octets-requires : tie.Need-put-further-octets-requires
 put-further-octets-requires c κs = (omega arith, omega (arith, lengths (c .before .before .before .before .before .before .before .before)))
-
-same-length : tie.Need-same-length
-same-length c = search needs
 
 returns : tie.Need-returns
 returns c =
@@ -49,10 +40,10 @@ pub put-ipv4-spec : {M : Type 1} → statement M
 put-ipv4-spec =
     tie.close
     (tie.spec
-    shared-slice-read-b
+    (λ c. search needs)
     cast-b
     put-decimal-requires
-    add-put-further-octets
+    (λ c. search needs)
     put-further-octets-requires
-    same-length
+    (λ c. search needs)
     returns)

@@ -11,9 +11,9 @@ use Rattle.rules.specs.Address.{groups}
 use Rattle.rules.proofs.Tools.{length-part}
 use Rattle.put.specs.Joined.{further}
 use Rattle.put.proofs.Joined.{further-none, further-step}
-use Rattle.put.proofs.Laws.{Count, count-whole, count-next, counted, count-last}
+use Rattle.put.proofs.Wrote.{Count, count-whole, count-next, counted, count-last}
 use Rattle.ipv6.proofs.Groups.{eight-groups}
-use Rattle.ipv6.proofs.Texts.{further-most}
+use Rattle.ipv6.proofs.GroupTexts.{further-most}
 use borrow.Author.Needs.{needs}
 use Rattle.ipv6.proofs.further_length.Statement.{statement}
 use Rattle.ipv6.proofs.further_length.Tie as tie
@@ -25,19 +25,10 @@ Inv-loop src from k n end total₀ i₀ total i =
 abbrev μ-loop : tie.MeasureT-loop
 μ-loop src from k n end total₀ i₀ total i = end - i
 
-add-end : tie.Need-add-end Inv-loop μ-loop
-add-end c = search needs
-
 loop-holds : tie.Need-loop-holds Inv-loop μ-loop
 loop-holds c =
     let a = c .before .args in
     (omega arith, count-whole (further colon (numeral 16 4)) (groups (part (now (a .src)) (a .from) 16)) (a .k) (a .n))
-
-group-at-requires : tie.Need-group-at-requires Inv-loop μ-loop
-group-at-requires c κs = search needs
-
-hex-length-requires : tie.Need-hex-length-requires Inv-loop μ-loop
-hex-length-requires c κs = search needs
 
 loop-again : tie.Need-loop-again Inv-loop μ-loop
 loop-again c =
@@ -63,12 +54,6 @@ add-total c = omega (arith, fits c)
 add-total-2 : tie.Need-add-total-2 Inv-loop μ-loop
 add-total-2 c = omega (arith, fits c)
 
-add-i : tie.Need-add-i Inv-loop μ-loop
-add-i c = search needs
-
-loop-less : tie.Need-loop-less Inv-loop μ-loop
-loop-less c = search needs
-
 returns : tie.Need-returns Inv-loop μ-loop
 returns c =
     let l = c .before in
@@ -81,13 +66,13 @@ further-length-spec =
     (tie.spec
     Inv-loop
     μ-loop
-    add-end
+    (λ c. search needs)
     loop-holds
-    group-at-requires
-    hex-length-requires
+    (λ c κs. search needs)
+    (λ c κs. search needs)
     add-total
     add-total-2
-    add-i
-    loop-less
+    (λ c. search needs)
+    (λ c. search needs)
     loop-again
     returns)

@@ -9,7 +9,7 @@ use Rattle.rules.specs.Numeral.{numeral}
 use Rattle.rules.specs.Address.{groups, hexGroups}
 use Rattle.put.specs.Joined.{further}
 use Rattle.ipv6.proofs.Groups.{eight-groups}
-use Rattle.ipv6.proofs.Texts.{no-groups, groups-further}
+use Rattle.ipv6.proofs.GroupTexts.{no-groups, groups-further}
 use borrow.Author.Needs.{needs}
 use Rattle.ipv6.proofs.groups_length.Statement.{statement}
 use Rattle.ipv6.proofs.groups_length.Tie as tie
@@ -27,9 +27,6 @@ returns c =
     let a = c .before .before .args in
     rw (c .if1 .taken, no-groups (groups (part (now (a .src)) (a .from) 16)) (a .k))
 
-further-length-requires : tie.Need-further-length-requires
-further-length-requires c κs = search needs
-
 sub-result : tie.Need-sub-result
 sub-result c = omega (arith, lengths (c .before), c .further-length .ensures)
 
@@ -37,4 +34,4 @@ returns-2 : tie.Need-returns-2
 returns-2 c = omega (arith, lengths (c .before), c .further-length .ensures)
 
 pub groups-length-spec : {M : Type 1} → statement M
-groups-length-spec = tie.close (tie.spec returns further-length-requires sub-result returns-2)
+groups-length-spec = tie.close (tie.spec returns (λ c κs. search needs) sub-result returns-2)

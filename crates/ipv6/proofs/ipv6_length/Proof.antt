@@ -8,7 +8,7 @@ use Rattle.rules.specs.Bytes.{Bytes, part}
 use Rattle.rules.specs.Address.{groups, hexGroups, ipv6Text}
 use Rattle.ipv6.specs.declared.Zeros.{Zeros}
 use Rattle.ipv6.proofs.Groups.{eight-groups}
-use Rattle.ipv6.proofs.Texts.{ipv6-fits, run-inside, ipv6-whole, ipv6-lengths}
+use Rattle.ipv6.proofs.GroupTexts.{ipv6-fits, run-inside, ipv6-whole, ipv6-lengths}
 use borrow.Author.Needs.{needs}
 use Rattle.ipv6.proofs.ipv6_length.Statement.{statement}
 use Rattle.ipv6.proofs.ipv6_length.Tie as tie
@@ -35,12 +35,6 @@ module _ (c : tie.Else1) where
 
   most : length (ipv6Text (bytesOf start)) ≤ 49
   most = ipv6-fits (now (start .args .src)) (start .args .from) (start .pre)
-
-longest-run-requires : tie.Need-longest-run-requires
-longest-run-requires c κs = search needs
-
-groups-length-requires : tie.Need-groups-length-requires
-groups-length-requires c κs = search needs
 
 returns : tie.Need-returns
 returns c =
@@ -75,8 +69,8 @@ pub ipv6-length-spec : {M : Type 1} → statement M
 ipv6-length-spec =
     tie.close
     (tie.spec
-    longest-run-requires
-    groups-length-requires
+    (λ c κs. search needs)
+    (λ c κs. search needs)
     returns
     add-next
     groups-length-requires-2

@@ -9,7 +9,7 @@ use Rattle.rules.specs.Address.{groups}
 use Rattle.ipv6.specs.declared.Zeros.{Zeros}
 use Rattle.ipv6.specs.Zeros.{withGroup, zerosFrom}
 use Rattle.ipv6.proofs.Groups.{eight-groups}
-use Rattle.ipv6.proofs.Runs.{walk-first, walk-turn, walk-ahead}
+use Rattle.ipv6.proofs.ZeroRuns.{walk-first, walk-turn, walk-ahead}
 use borrow.Author.Needs.{needs}
 use Rattle.ipv6.proofs.longest_run.Statement.{statement}
 use Rattle.ipv6.proofs.longest_run.Tie as tie
@@ -25,21 +25,12 @@ loop-holds c =
     let s = c .before in
     (omega arith, walk-first (groups (part (now (s .args .src)) (s .args .from) 16)) (eight-groups (now (s .args .src)) (s .args .from) (s .pre)))
 
-sub-k : tie.Need-sub-k Inv-loop μ-loop
-sub-k c = search needs
-
-group-at-requires : tie.Need-group-at-requires Inv-loop μ-loop
-group-at-requires c κs = search needs
-
 with-group-requires : tie.Need-with-group-requires Inv-loop μ-loop
 with-group-requires c κs =
     let l = c .before .before .loop in
     let s = c .before .before .before .before in
     let gs = groups (part (now (s .args .src)) (s .args .from) 16) in
     omega (arith, ap (λ (z : Zeros). z .here) (l .inv .1), walk-ahead (l .k) (drop (l .k) gs), length-drop (l .k) gs, eight-groups (now (s .args .src)) (s .args .from) (s .pre))
-
-loop-less : tie.Need-loop-less Inv-loop μ-loop
-loop-less c = search needs
 
 loop-again : tie.Need-loop-again Inv-loop μ-loop
 loop-again c =
@@ -57,4 +48,4 @@ returns c =
     l .inv .1 ∙ rw e
 
 pub longest-run-spec : {M : Type 1} → statement M
-longest-run-spec = tie.close (tie.spec Inv-loop μ-loop loop-holds sub-k group-at-requires with-group-requires loop-less loop-again returns)
+longest-run-spec = tie.close (tie.spec Inv-loop μ-loop loop-holds (λ c. search needs) (λ c κs. search needs) with-group-requires (λ c. search needs) loop-again returns)

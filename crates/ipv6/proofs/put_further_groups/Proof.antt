@@ -9,7 +9,7 @@ use Rattle.rules.specs.Numeral.{numeral}
 use Rattle.rules.specs.Address.{groups}
 use Rattle.put.specs.Joined.{further}
 use Rattle.put.proofs.Joined.{further-none, further-step}
-use Rattle.put.proofs.Laws.{Left, Next, left-whole, next, next-room, next-wrote, last, wrote-then}
+use Rattle.put.proofs.Wrote.{Left, Next, left-whole, next, next-room, next-wrote, last, wrote-then}
 use Rattle.ipv6.proofs.Groups.{eight-groups}
 use borrow.Author.Needs.{needs}
 use Rattle.ipv6.proofs.put_further_groups.Statement.{statement}
@@ -21,9 +21,6 @@ Inv-loop room₀ at digits src from k n end i₀ o₀ room i o =
 
 abbrev μ-loop : tie.MeasureT-loop
 μ-loop room₀ at digits src from k n end i₀ o₀ room i o = end - i
-
-add-end : tie.Need-add-end Inv-loop μ-loop
-add-end c = search needs
 
 loop-holds : tie.Need-loop-holds Inv-loop μ-loop
 loop-holds c =
@@ -40,9 +37,6 @@ turn t =
     let h : s .args .k + s .args .n ≤ length gs = omega (arith, eight-groups (now (s .args .src)) (s .args .from) (s .pre .1 .0 .0)) in
     next (further colon (numeral 16 4)) (λ g. colon ∷ numeral 16 4 g) (further-step colon (numeral 16 4)) (further-none colon (numeral 16 4)) gs (l .i) (s .args .k + s .args .n) (t .loop-test .taken) h (l .inv .2)
 
-group-at-requires : tie.Need-group-at-requires Inv-loop μ-loop
-group-at-requires c κs = search needs
-
 put-byte-requires : tie.Need-put-byte-requires Inv-loop μ-loop
 put-byte-requires c κs =
     let t = c .before .before in
@@ -54,12 +48,6 @@ put-hex-requires c κs =
     let t = g .before in
     let s = t .before .before .before .before in
     (s .pre .0, rw (g .group-at .ensures) (omega (arith, next-room (turn t) (s .pre .1 .1))))
-
-add-i : tie.Need-add-i Inv-loop μ-loop
-add-i c = search needs
-
-loop-less : tie.Need-loop-less Inv-loop μ-loop
-loop-less c = search needs
 
 loop-again : tie.Need-loop-again Inv-loop μ-loop
 loop-again c =
@@ -83,13 +71,13 @@ put-further-groups-spec =
     (tie.spec
     Inv-loop
     μ-loop
-    add-end
+    (λ c. search needs)
     loop-holds
-    group-at-requires
+    (λ c κs. search needs)
     put-byte-requires
     put-hex-requires
-    add-i
-    loop-less
+    (λ c. search needs)
+    (λ c. search needs)
     loop-again
     same-length
     returns)

@@ -9,9 +9,9 @@ use Rattle.rules.specs.Bytes.{part, colon}
 use Rattle.rules.specs.Numeral.{numeral}
 use Rattle.rules.specs.Address.{groups, hexGroups}
 use Rattle.put.specs.Joined.{further}
-use Rattle.put.proofs.Laws.{wrote-none, wrote-then}
+use Rattle.put.proofs.Wrote.{wrote-none, wrote-then}
 use Rattle.ipv6.proofs.Groups.{eight-groups}
-use Rattle.ipv6.proofs.Texts.{no-groups, some-groups}
+use Rattle.ipv6.proofs.GroupTexts.{no-groups, some-groups}
 use borrow.Author.Needs.{needs}
 use Rattle.ipv6.proofs.put_groups.Statement.{statement}
 use Rattle.ipv6.proofs.put_groups.Tie as tie
@@ -36,19 +36,10 @@ returns c =
     let a = c .before .before .before .args in
     rw (c .if1 .taken, no-groups (groups (part (now (a .src)) (a .from) 16)) (a .k)) wrote-none
 
-group-at-requires : tie.Need-group-at-requires
-group-at-requires c κs = search needs
-
 put-hex-requires : tie.Need-put-hex-requires
 put-hex-requires c κs =
     let e = c .before .before in
     (e .before .before .before .pre .0, rw (c .before .group-at .ensures) (omega (arith, lengths e)))
-
-add-put-further-groups : tie.Need-add-put-further-groups
-add-put-further-groups c = search needs
-
-sub-put-further-groups : tie.Need-sub-put-further-groups
-sub-put-further-groups c = search needs
 
 put-further-groups-requires : tie.Need-put-further-groups-requires
 put-further-groups-requires c κs =
@@ -56,9 +47,6 @@ put-further-groups-requires c κs =
     let e = g .before in
     let s = e .before .before .before in
     (s .pre .0, ((s .pre .1 .0 .0, omega arith), omega (arith, lengths e, ap (λ (n : ℕ). length (numeral 16 4 n)) (g .group-at .ensures))))
-
-same-length : tie.Need-same-length
-same-length c = search needs
 
 returns-2 : tie.Need-returns-2
 returns-2 c =
@@ -72,10 +60,10 @@ put-groups-spec =
     tie.close
     (tie.spec
     returns
-    group-at-requires
+    (λ c κs. search needs)
     put-hex-requires
-    add-put-further-groups
-    sub-put-further-groups
+    (λ c. search needs)
+    (λ c. search needs)
     put-further-groups-requires
-    same-length
+    (λ c. search needs)
     returns-2)

@@ -7,10 +7,10 @@ use lib.ListN.{length}
 use denote.Ref.{now}
 use Rattle.rules.specs.Bytes.{Bytes, part, colon}
 use Rattle.rules.specs.Address.{groups, hexGroups, ipv6Text}
-use Rattle.put.proofs.Laws.{wrote-then}
+use Rattle.put.proofs.Wrote.{wrote-then}
 use Rattle.ipv6.specs.declared.Zeros.{Zeros}
 use Rattle.ipv6.proofs.Groups.{eight-groups}
-use Rattle.ipv6.proofs.Texts.{run-inside, ipv6-whole, ipv6-cut, ipv6-lengths}
+use Rattle.ipv6.proofs.GroupTexts.{run-inside, ipv6-whole, ipv6-cut, ipv6-lengths}
 use borrow.Author.Needs.{needs}
 use Rattle.ipv6.proofs.put_ipv6.Statement.{statement}
 use Rattle.ipv6.proofs.put_ipv6.Tie as tie
@@ -50,20 +50,11 @@ module _ (c : tie.Else1) where
   lengths : length (ipv6Text (bytesOf start)) ≡ length head + (2 + length tail)
   lengths = ipv6-lengths (bytesOf start) (eight start) run (c .before .before .longest-run .ensures) (c .if1 .left)
 
-lower-hex-digits-requires : tie.Need-lower-hex-digits-requires
-lower-hex-digits-requires c κs = search needs
-
-longest-run-requires : tie.Need-longest-run-requires
-longest-run-requires c κs = search needs
-
 put-groups-requires : tie.Need-put-groups-requires
 put-groups-requires c κs =
     let t = c .before .before in
     let s = t .before .before .before .before .before .before in
     (t .before .before .before .lower-hex-digits .ensures, ((s .pre .0, omega arith), omega (arith, ap length (whole t))))
-
-same-length : tie.Need-same-length
-same-length c = search needs
 
 returns : tie.Need-returns
 returns c = rw (whole (c .before .before .before .before .before)) (c .before .before .put-groups .ensures)
@@ -72,9 +63,6 @@ put-groups-requires-2 : tie.Need-put-groups-requires-2
 put-groups-requires-2 c κs =
     let e = c .before .before in
     (e .before .before .before .lower-hex-digits .ensures, ((start e .pre .0, omega (arith, inside e)), omega (arith, lengths e)))
-
-slice-aggregate-put-bytes : tie.Need-slice-aggregate-put-bytes
-slice-aggregate-put-bytes c = search needs
 
 put-bytes-requires : tie.Need-put-bytes-requires
 put-bytes-requires c κs = omega (arith, lengths (c .before .before .before .before .before .before .before))
@@ -90,9 +78,6 @@ put-groups-requires-3 c κs =
     let e = c .before .before .before .before .before .before .before .before .before .before .before .before .before in
     (e .before .before .before .lower-hex-digits .ensures, ((start e .pre .0, omega (arith, inside e)), omega (arith, lengths e)))
 
-same-length-2 : tie.Need-same-length-2
-same-length-2 c = search needs
-
 returns-2 : tie.Need-returns-2
 returns-2 c =
     let r = c .before .before in
@@ -104,16 +89,16 @@ pub put-ipv6-spec : {M : Type 1} → statement M
 put-ipv6-spec =
     tie.close
     (tie.spec
-    lower-hex-digits-requires
-    longest-run-requires
+    (λ c κs. search needs)
+    (λ c κs. search needs)
     put-groups-requires
-    same-length
+    (λ c. search needs)
     returns
     put-groups-requires-2
-    slice-aggregate-put-bytes
+    (λ c. search needs)
     put-bytes-requires
     add-next
     sub-put-groups
     put-groups-requires-3
-    same-length-2
+    (λ c. search needs)
     returns-2)

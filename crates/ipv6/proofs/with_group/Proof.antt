@@ -1,13 +1,10 @@
 -- `ipv6::with_group` meets its contract.
 use mathlib.Core.Path.{sym}
 use borrow.Author.Tests.{le-leb, lt-leb}
-use Rattle.ipv6.proofs.Runs.{walk-here, walk-later}
+use Rattle.ipv6.proofs.ZeroRuns.{walk-here, walk-later}
 use borrow.Author.Needs.{needs}
 use Rattle.ipv6.proofs.with_group.Statement.{statement}
 use Rattle.ipv6.proofs.with_group.Tie as tie
-
-zeros-ahead-requires : tie.Need-zeros-ahead-requires
-zeros-ahead-requires c κs = search needs
 
 returns : tie.Need-returns
 returns c =
@@ -20,4 +17,4 @@ returns-2 c =
     rw h (sym (walk-later _ _ _ (lt-leb _ _ (rw h at (c .if1 .left)))))
 
 pub with-group-spec : {M : Type 1} → statement M
-with-group-spec = tie.close (tie.spec zeros-ahead-requires returns returns-2)
+with-group-spec = tie.close (tie.spec (λ c κs. search needs) returns returns-2)

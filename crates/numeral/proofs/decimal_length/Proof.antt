@@ -4,7 +4,7 @@ use mathlib.Core.Path.{_≡_, ap}
 use Prim.Native.Nat.{ℕ, _<_, _≤_}
 use lib.ListN.{length}
 use Rattle.numeral.specs.Scales.{digitAt}
-use Rattle.numeral.proofs.Laws.{digit-none, digit-one, length-decimal}
+use Rattle.numeral.proofs.Scales.{digit-none, digit-one, length-decimal}
 use Rattle.numeral.proofs.decimal_length.Statement.{statement}
 use Rattle.numeral.proofs.decimal_length.Tie as tie
 

@@ -1,7 +1,7 @@
 -- `numeral::hex_digit_length` meets its contract.
 use mathlib.Core.Path.{sym, ap}
 use lib.ListN.{length}
-use Rattle.numeral.proofs.Laws.{digit-none, digit-one}
+use Rattle.numeral.proofs.Scales.{digit-none, digit-one}
 use Rattle.numeral.proofs.hex_digit_length.Statement.{statement}
 use Rattle.numeral.proofs.hex_digit_length.Tie as tie
 

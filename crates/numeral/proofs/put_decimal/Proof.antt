@@ -1,9 +1,9 @@
 -- `numeral::put_decimal` meets its contract: the numeral is its digits at the scales.
 use Prim.Native.Nat.{_%_}
 use native.Mathlib.Omega.{arith}
-use Rattle.put.proofs.Laws.{wrote-then}
+use Rattle.put.proofs.Wrote.{wrote-then}
 use Rattle.numeral.specs.Scales.{scaled}
-use Rattle.numeral.proofs.Laws.{decimal-scaled, length-decimal, digit-small}
+use Rattle.numeral.proofs.Scales.{decimal-scaled, length-decimal, digit-small}
 use borrow.Author.Needs.{needs}
 use Rattle.numeral.proofs.put_decimal.Statement.{statement}
 use Rattle.numeral.proofs.put_decimal.Tie as tie
@@ -25,19 +25,10 @@ put-decimal-digit-requires-4 c κs =
     let s = c .before .before .before .before .before .before .before .before .before .before .before .before .before .before in
     omega (arith, length-decimal (s .args .n) (s .fits .n .fits))
 
-cast-put-byte : tie.Need-cast-put-byte
-cast-put-byte c = search needs
-
-add-put-byte : tie.Need-add-put-byte
-add-put-byte c = search needs
-
 put-byte-requires : tie.Need-put-byte-requires
 put-byte-requires c κs =
     let s = c .before .before .before .before .before .before .before .before .before .before .before .before .before .before .before .before .before .before in
     omega (arith, length-decimal (s .args .n) (s .fits .n .fits))
-
-same-length : tie.Need-same-length
-same-length c = search needs
 
 returns : tie.Need-returns
 unfolding scaled
@@ -60,8 +51,8 @@ put-decimal-spec =
     put-decimal-digit-requires-2
     put-decimal-digit-requires-3
     put-decimal-digit-requires-4
-    cast-put-byte
-    add-put-byte
+    (λ c. search needs)
+    (λ c. search needs)
     put-byte-requires
-    same-length
+    (λ c. search needs)
     returns)

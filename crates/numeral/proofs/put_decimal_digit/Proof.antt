@@ -3,8 +3,8 @@ use Prim.Native.Nat.{_/_, _%_}
 use native.Mathlib.Omega.{arith}
 use mathlib.Core.Path.{ap}
 use lib.ListN.{length}
-use Rattle.put.proofs.Laws.{wrote-none}
-use Rattle.numeral.proofs.Laws.{digit-none, digit-one, digit-small}
+use Rattle.put.proofs.Wrote.{wrote-none}
+use Rattle.numeral.proofs.Scales.{digit-none, digit-one, digit-small}
 use borrow.Author.Needs.{needs}
 use Rattle.numeral.proofs.put_decimal_digit.Statement.{statement}
 use Rattle.numeral.proofs.put_decimal_digit.Tie as tie
@@ -12,20 +12,8 @@ use Rattle.numeral.proofs.put_decimal_digit.Tie as tie
 returns : tie.Need-returns
 returns c = rw (digit-none _ _ _ (c .if1 .taken)) wrote-none
 
-div-put-byte : tie.Need-div-put-byte
-div-put-byte c = search needs
-
-cast-put-byte : tie.Need-cast-put-byte
-cast-put-byte c = search needs
-
-add-put-byte : tie.Need-add-put-byte
-add-put-byte c = search needs
-
 put-byte-requires : tie.Need-put-byte-requires
 put-byte-requires c κs = omega (arith, ap length (digit-one 10 _ _ (c .before .if1 .left)))
-
-same-length : tie.Need-same-length
-same-length c = search needs
 
 returns-2 : tie.Need-returns-2
 returns-2 c =
@@ -34,4 +22,4 @@ returns-2 c =
     rw (digit-one 10 (a .scale) (a .n) (e .if1 .left), digit-small (a .n / a .scale % 10) (omega arith)) (c .before .before .put-byte .ensures)
 
 pub put-decimal-digit-spec : {M : Type 1} → statement M
-put-decimal-digit-spec = tie.close (tie.spec returns div-put-byte cast-put-byte add-put-byte put-byte-requires same-length returns-2)
+put-decimal-digit-spec = tie.close (tie.spec returns (λ c. search needs) (λ c. search needs) (λ c. search needs) put-byte-requires (λ c. search needs) returns-2)

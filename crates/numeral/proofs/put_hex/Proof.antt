@@ -2,9 +2,9 @@
 use Prim.Native.Nat.{_%_}
 use native.Mathlib.Omega.{arith}
 use Rattle.put.specs.Tables.{Digits}
-use Rattle.put.proofs.Laws.{wrote-then}
+use Rattle.put.proofs.Wrote.{wrote-then}
 use Rattle.numeral.specs.Scales.{scaled}
-use Rattle.numeral.proofs.Laws.{hex-scaled, length-hex}
+use Rattle.numeral.proofs.Scales.{hex-scaled, length-hex}
 use borrow.Author.Needs.{needs}
 use Rattle.numeral.proofs.put_hex.Statement.{statement}
 use Rattle.numeral.proofs.put_hex.Tie as tie
@@ -22,19 +22,10 @@ put-hex-digit-requires-3 c κs =
     let s = c .before .before .before .before .before .before .before .before .before .before in
     (s .pre .0, omega (arith, length-hex (s .args .n) (s .fits .n .fits)))
 
-cast-d : tie.Need-cast-d
-cast-d c = search needs
-
-element-copy-out-put-byte : tie.Need-element-copy-out-put-byte
-element-copy-out-put-byte c = search needs
-
 put-byte-requires : tie.Need-put-byte-requires
 put-byte-requires c κs =
     let s = c .before .before .before .before .before .before .before .before .before .before .before .before .before .before .before in
     omega (arith, length-hex (s .args .n) (s .fits .n .fits))
-
-same-length : tie.Need-same-length
-same-length c = search needs
 
 returns : tie.Need-returns
 unfolding scaled Digits
@@ -55,8 +46,8 @@ put-hex-spec =
     put-hex-digit-requires
     put-hex-digit-requires-2
     put-hex-digit-requires-3
-    cast-d
-    element-copy-out-put-byte
+    (λ c. search needs)
+    (λ c. search needs)
     put-byte-requires
-    same-length
+    (λ c. search needs)
     returns)

@@ -3,25 +3,16 @@ use native.Mathlib.Omega.{arith}
 use mathlib.Core.Path.{refl, _∙_}
 use denote.Ref.{now}
 use Rattle.rules.specs.Calls.{write}
-use Rattle.outcomes.proofs.Laws.{right-full, right-done}
+use Rattle.outcomes.proofs.Answers.{right-full, right-done}
 use borrow.Author.Needs.{needs}
 use Rattle.outcomes.proofs.copied.Statement.{statement}
 use Rattle.outcomes.proofs.copied.Tie as tie
-
-refused-requires : tie.Need-refused-requires
-refused-requires c κs = search needs
 
 returns : tie.Need-returns
 returns c =
     let start = c .before .before .before .before in
     let u = right-full {u = write (now (start .args .s))} {room = now (start .args .room)} (now (start .args .s)) refl (omega (arith, c .before .if1 .taken)) in
     (c .refused .ensures ∙ u .answered, u .holds)
-
-put-bytes-requires : tie.Need-put-bytes-requires
-put-bytes-requires c κs = search needs
-
-same-length : tie.Need-same-length
-same-length c = search needs
 
 returns-2 : tie.Need-returns-2
 returns-2 c =
@@ -30,4 +21,4 @@ returns-2 c =
 
 pub copied-spec : {M : Type 1} → statement M
 copied-spec =
-    tie.close (tie.spec refused-requires returns put-bytes-requires same-length returns-2)
+    tie.close (tie.spec (λ c κs. search needs) returns (λ c κs. search needs) (λ c. search needs) returns-2)

@@ -5,7 +5,7 @@ use mathlib.Core.Path.{_≡_, ap, _∙_}
 use mathlib.Core.List.{[], _∷_}
 use Rattle.rules.specs.Bytes.{Bytes, bigEndian}
 use Rattle.rules.proofs.Heads.{big-high, length-big}
-use Rattle.put.proofs.Laws.{Left, Next, left-all, left-done, next-room, next-wrote, wrote-one}
+use Rattle.put.proofs.Wrote.{Left, Next, left-all, left-done, next-room, next-wrote, wrote-one}
 use borrow.Author.Needs.{needs}
 use Rattle.put.proofs.put_big_endian.Statement.{statement}
 use Rattle.put.proofs.put_big_endian.Tie as tie
@@ -30,18 +30,6 @@ last left v e l = rw e at l
 loop-holds : tie.Need-loop-holds Inv-loop μ-loop
 loop-holds c = (omega arith, left-all)
 
-sub-left : tie.Need-sub-left Inv-loop μ-loop
-sub-left c = search needs
-
-mul-room : tie.Need-mul-room Inv-loop μ-loop
-mul-room c = search needs
-
-shr-room : tie.Need-shr-room Inv-loop μ-loop
-shr-room c = search needs
-
-cast-room : tie.Need-cast-room Inv-loop μ-loop
-cast-room c = search needs
-
 slice-write-room : tie.Need-slice-write-room Inv-loop μ-loop
 slice-write-room c =
     let l = c .before in
@@ -50,9 +38,6 @@ slice-write-room c =
 
 add-o : tie.Need-add-o Inv-loop μ-loop
 add-o c = omega (arith, slice-write-room c)
-
-loop-less : tie.Need-loop-less Inv-loop μ-loop
-loop-less c = search needs
 
 loop-again : tie.Need-loop-again Inv-loop μ-loop
 loop-again c =
@@ -68,4 +53,4 @@ returns c = left-done (last (c .before .loop .left) (c .before .before .args .v)
 pub put-big-endian-spec : {M : Type 1} → statement M
 put-big-endian-spec =
     tie.close
-    (tie.spec Inv-loop μ-loop loop-holds sub-left mul-room shr-room cast-room slice-write-room add-o loop-less loop-again same-length returns)
+    (tie.spec Inv-loop μ-loop loop-holds (λ c. search needs) (λ c. search needs) (λ c. search needs) (λ c. search needs) slice-write-room add-o (λ c. search needs) loop-again same-length returns)

@@ -6,7 +6,7 @@ use denote.Ref.{now}
 use lib.ListN.{length}
 use lib.Seq.{sets, length-sets}
 use Rattle.rules.specs.Bytes.{part}
-use Rattle.put.proofs.Laws.{wrote-as, wrote-length, wrote-over}
+use Rattle.put.proofs.Wrote.{wrote-as, wrote-length, wrote-over}
 use borrow.Author.Needs.{needs}
 use Rattle.put.proofs.put_blocks.Statement.{statement}
 use Rattle.put.proofs.put_blocks.Tie as tie
@@ -18,17 +18,8 @@ Inv-loop room₀ at src from n last k₀ room k =
 abbrev μ-loop : tie.MeasureT-loop
 μ-loop room₀ at src from n last k₀ room k = n - k
 
-sub-last : tie.Need-sub-last Inv-loop μ-loop
-sub-last c = search needs
-
 loop-holds : tie.Need-loop-holds Inv-loop μ-loop
 loop-holds c = (omega arith, refl)
-
-add-put-eight : tie.Need-add-put-eight Inv-loop μ-loop
-add-put-eight c = search needs
-
-add-put-eight-2 : tie.Need-add-put-eight-2 Inv-loop μ-loop
-add-put-eight-2 c = search needs
 
 put-eight-requires : tie.Need-put-eight-requires Inv-loop μ-loop
 put-eight-requires c κs =
@@ -37,24 +28,12 @@ put-eight-requires c κs =
     let z = ap length (loop′ .loop .inv .1) ∙ length-sets (now (s .args .room)) (s .args .at) (part (now (s .args .src)) (s .args .from) (loop′ .loop .k)) in
     (omega (arith, s .pre .0), omega (arith, s .pre .0, s .pre .1, z))
 
-add-k : tie.Need-add-k Inv-loop μ-loop
-add-k c = search needs
-
-loop-less : tie.Need-loop-less Inv-loop μ-loop
-loop-less c = search needs
-
 loop-again : tie.Need-loop-again Inv-loop μ-loop
 loop-again c =
     let put-eight′ = c .before .before in
     let loop′ = put-eight′ .before .before .before in
     let s = loop′ .before .before .before in
     (omega (arith, s .pre .0), wrote-over (now (s .args .src)) (s .args .at) (s .args .from) (loop′ .loop .k) (loop′ .loop .k) 8 (omega arith) (omega arith) (omega (arith, s .pre .0)) (loop′ .loop .inv .1) (put-eight′ .put-eight .ensures) .bytes)
-
-add-put-eight-3 : tie.Need-add-put-eight-3 Inv-loop μ-loop
-add-put-eight-3 c = search needs
-
-add-put-eight-4 : tie.Need-add-put-eight-4 Inv-loop μ-loop
-add-put-eight-4 c = search needs
 
 put-eight-requires-2 : tie.Need-put-eight-requires-2 Inv-loop μ-loop
 put-eight-requires-2 c κs =
@@ -86,16 +65,16 @@ put-blocks-spec =
     (tie.spec
     Inv-loop
     μ-loop
-    sub-last
+    (λ c. search needs)
     loop-holds
-    add-put-eight
-    add-put-eight-2
+    (λ c. search needs)
+    (λ c. search needs)
     put-eight-requires
-    add-k
-    loop-less
+    (λ c. search needs)
+    (λ c. search needs)
     loop-again
-    add-put-eight-3
-    add-put-eight-4
+    (λ c. search needs)
+    (λ c. search needs)
     put-eight-requires-2
     same-length
     returns)

@@ -9,7 +9,7 @@ use mir.Val.{Fits}
 use lib.Dec.{lit<}
 use lib.ListN.{length, set, getD, length-set}
 use Rattle.rules.specs.Bytes.{Bytes}
-use Rattle.put.proofs.Laws.{wrote-as, wrote-eight, part-eight}
+use Rattle.put.proofs.Wrote.{wrote-as, wrote-eight, part-eight}
 use Rattle.put.proofs.put_eight.Statement.{statement}
 use Rattle.put.proofs.put_eight.Tie as tie
 use Rattle.put.proofs.put_eight.Reads as reads

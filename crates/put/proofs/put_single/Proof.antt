@@ -7,7 +7,7 @@ use lib.ListN.{getD}
 use denote.Ref.{now}
 use Rattle.rules.specs.Bytes.{part}
 use Rattle.rules.proofs.Tools.{length-part}
-use Rattle.put.proofs.Laws.{Left, Next, left-whole, next, next-room, next-wrote, last, wrote-one}
+use Rattle.put.proofs.Wrote.{Left, Next, left-whole, next, next-room, next-wrote, last, wrote-one}
 use Rattle.put.proofs.put_single.Statement.{statement}
 use Rattle.put.proofs.put_single.Tie as tie
 

@@ -7,20 +7,14 @@ use denote.Ref.{now}
 use borrow.Author.Tests.{le-leb, lt-leb, not-true, not-false}
 use Rattle.rules.specs.Reader.{readContent, addressHost}
 use Rattle.rules.proofs.Steps.{need-yes, need-no, bind-ok, bind-refused}
-use Rattle.reader.specs.Code.{namesIs}
+use Rattle.reader.specs.Answers.{namesIs}
 use borrow.Author.Needs.{needs}
 use Rattle.reader.proofs.address_host.Statement.{statement}
 use Rattle.reader.proofs.address_host.Tie as tie
 
-is-address-length-requires : tie.Need-is-address-length-requires
-is-address-length-requires c κs = search needs
-
 returns : tie.Need-returns
 unfolding addressHost
 returns c = need-no _ _ _ _ (sym (c .before .is-address-length .ensures) ∙ not-true _ (c .if1 .taken))
-
-sub-if2 : tie.Need-sub-if2
-sub-if2 c = search needs
 
 returns-2 : tie.Need-returns-2
 unfolding addressHost readContent
@@ -29,18 +23,6 @@ returns-2 c =
     let a = l .before .before .args in
     bind-refused _ _ _ _ (need-no _ _ _ _ (lt-leb (a .next + a .n) (length (now (a .s))) (omega arith)))
     ∙ need-yes _ _ _ _ (sym (l .is-address-length .ensures) ∙ not-false _ (c .before .if1 .left))
-
-add-port-at : tie.Need-add-port-at
-add-port-at c = search needs
-
-port-at-requires : tie.Need-port-at-requires
-port-at-requires c κs = search needs
-
-enum-known-k : tie.Need-enum-known-k
-enum-known-k c = search needs
-
-enum-known-port : tie.Need-enum-known-port
-enum-known-port c = search needs
 
 returns-3 : tie.Need-returns-3
 unfolding addressHost readContent
@@ -66,13 +48,13 @@ pub address-host-spec : {M : Type 1} → statement M
 address-host-spec =
     tie.close
     (tie.spec
-    is-address-length-requires
+    (λ c κs. search needs)
     returns
-    sub-if2
+    (λ c. search needs)
     returns-2
-    add-port-at
-    port-at-requires
-    enum-known-k
-    enum-known-port
+    (λ c. search needs)
+    (λ c κs. search needs)
+    (λ c. search needs)
+    (λ c. search needs)
     returns-3
     returns-4)

@@ -4,7 +4,7 @@ use mathlib.Core.Path.{sym, ap, _∙_}
 use borrow.Author.Tests.{le-leb, lt-leb}
 use Rattle.rules.specs.Reader.{afterScheme}
 use Rattle.rules.proofs.Steps.{need-yes, need-no, bind-ok, bind-refused}
-use Rattle.reader.specs.Code.{authorityIs}
+use Rattle.reader.specs.Answers.{authorityIs}
 use borrow.Author.Needs.{needs}
 use Rattle.reader.proofs.after_scheme.Statement.{statement}
 use Rattle.reader.proofs.after_scheme.Tie as tie
@@ -12,15 +12,6 @@ use Rattle.reader.proofs.after_scheme.Tie as tie
 returns : tie.Need-returns
 unfolding afterScheme
 returns c = need-no _ _ _ _ (lt-leb 2 (c .before .before .args .count) (c .if1 .taken))
-
-authority-at-requires : tie.Need-authority-at-requires
-authority-at-requires c κs = search needs
-
-enum-known-k : tie.Need-enum-known-k
-enum-known-k c = search needs
-
-enum-known-authority : tie.Need-enum-known-authority
-enum-known-authority c = search needs
 
 returns-2 : tie.Need-returns-2
 unfolding afterScheme
@@ -39,4 +30,4 @@ returns-3 c =
 pub after-scheme-spec : {M : Type 1} → statement M
 after-scheme-spec =
     tie.close
-    (tie.spec returns authority-at-requires enum-known-k enum-known-authority returns-2 returns-3)
+    (tie.spec returns (λ c κs. search needs) (λ c. search needs) (λ c. search needs) returns-2 returns-3)

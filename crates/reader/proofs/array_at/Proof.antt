@@ -3,38 +3,14 @@ use native.Mathlib.Omega.{arith}
 use mathlib.Core.List.{[], _∷_}
 use mathlib.Core.Path.{_∙_}
 use Rattle.rules.specs.Head.{codeOf}
-use Rattle.reader.proofs.Items.{item-is, no-other}
-use Rattle.reader.proofs.Cases as cases
+use Rattle.reader.proofs.ItemAnswers.{item-is, no-other}
+use Rattle.reader.proofs.ReaderCases as cases
 use borrow.Author.Needs.{needs}
 use Rattle.reader.proofs.array_at.Statement.{statement}
 use Rattle.reader.proofs.array_at.Tie as tie
 
 returns : tie.Need-returns
 returns c = cases.array-none _ _ _ _ _ _ (c .if1 .taken)
-
-array-or-null-requires : tie.Need-array-or-null-requires
-array-or-null-requires c κs = search needs
-
-item-at-requires : tie.Need-item-at-requires
-item-at-requires c κs = search needs
-
-enum-known-n : tie.Need-enum-known-n
-enum-known-n c = search needs
-
-array-body-requires : tie.Need-array-body-requires
-array-body-requires c κs = search needs
-
-enum-known-next : tie.Need-enum-known-next
-enum-known-next c = search needs
-
-sub-null-body : tie.Need-sub-null-body
-sub-null-body c = search needs
-
-null-body-requires : tie.Need-null-body-requires
-null-body-requires c κs = search needs
-
-enum-known-n-2 : tie.Need-enum-known-n-2
-enum-known-n-2 c = search needs
 
 returns-2 : tie.Need-returns-2
 returns-2 c =
@@ -64,14 +40,14 @@ array-at-spec =
     tie.close
     (tie.spec
     returns
-    array-or-null-requires
-    item-at-requires
-    enum-known-n
-    array-body-requires
-    enum-known-next
-    sub-null-body
-    null-body-requires
-    enum-known-n-2
+    (λ c κs. search needs)
+    (λ c κs. search needs)
+    (λ c. search needs)
+    (λ c κs. search needs)
+    (λ c. search needs)
+    (λ c. search needs)
+    (λ c κs. search needs)
+    (λ c. search needs)
     returns-2
     returns-3
     returns-4

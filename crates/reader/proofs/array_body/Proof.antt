@@ -4,8 +4,8 @@ use mathlib.Core.Path.{sym, ap, _∙_}
 use Rattle.rules.specs.Reader.{arrayBody}
 use Rattle.rules.proofs.Tools.{is-within}
 use Rattle.rules.proofs.Steps.{need-yes, need-no, bind-ok, bind-refused}
-use Rattle.reader.specs.Code.{runIs}
-use Rattle.reader.proofs.Cases.{under, over}
+use Rattle.reader.specs.Answers.{rowEndIs}
+use Rattle.reader.proofs.ReaderCases.{under, over}
 use borrow.Author.Needs.{needs}
 use Rattle.reader.proofs.array_body.Statement.{statement}
 use Rattle.reader.proofs.array_body.Tie as tie
@@ -18,21 +18,12 @@ returns-2 : tie.Need-returns-2
 unfolding arrayBody
 returns-2 c = let a = c .before .before .before .args in need-no _ _ _ _ (over (a .low) (a .high) (a .n) (c .if2 .taken))
 
-texts-at-requires : tie.Need-texts-at-requires
-texts-at-requires c κs = search needs
-
-enum-known-k : tie.Need-enum-known-k
-enum-known-k c = search needs
-
-enum-known-end : tie.Need-enum-known-end
-enum-known-end c = search needs
-
 returns-3 : tie.Need-returns-3
 unfolding arrayBody
 returns-3 c =
     let t = c .before .before .before in
     let a = t .before .before .before .before .args in
-    bind-refused _ _ _ _ (ap runIs (sym (c .before .k .given .1)) ∙ t .texts-at .ensures)
+    bind-refused _ _ _ _ (ap rowEndIs (sym (c .before .k .given .1)) ∙ t .row-at .ensures)
     ∙ need-yes _ _ _ _ (is-within (a .low) (a .high) (a .n) (omega arith) (omega arith))
 
 returns-4 : tie.Need-returns-4
@@ -40,10 +31,10 @@ unfolding arrayBody
 returns-4 c =
     let t = c .before .before .before in
     let a = t .before .before .before .before .args in
-    bind-ok _ _ _ (ap runIs (sym (c .before .end .given .1)) ∙ t .texts-at .ensures)
+    bind-ok _ _ _ (ap rowEndIs (sym (c .before .end .given .1)) ∙ t .row-at .ensures)
     ∙ need-yes _ _ _ _ (is-within (a .low) (a .high) (a .n) (omega arith) (omega arith))
 
 pub array-body-spec : {M : Type 1} → statement M
 array-body-spec =
     tie.close
-    (tie.spec returns returns-2 texts-at-requires enum-known-k enum-known-end returns-3 returns-4)
+    (tie.spec returns returns-2 (λ c κs. search needs) (λ c. search needs) (λ c. search needs) returns-3 returns-4)

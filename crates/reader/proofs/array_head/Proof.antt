@@ -1,22 +1,10 @@
 -- `reader::array_head` meets its contract.
 use mathlib.Core.List.{[], _∷_}
 use Rattle.rules.specs.Head.{codeOf}
-use Rattle.reader.proofs.Items.{item-is, no-other}
+use Rattle.reader.proofs.ItemAnswers.{item-is, no-other}
 use borrow.Author.Needs.{needs}
 use Rattle.reader.proofs.array_head.Statement.{statement}
 use Rattle.reader.proofs.array_head.Tie as tie
-
-only-array-requires : tie.Need-only-array-requires
-only-array-requires c κs = search needs
-
-item-at-requires : tie.Need-item-at-requires
-item-at-requires c κs = search needs
-
-enum-known-n : tie.Need-enum-known-n
-enum-known-n c = search needs
-
-enum-known-n-2 : tie.Need-enum-known-n-2
-enum-known-n-2 c = search needs
 
 returns : tie.Need-returns
 returns c =
@@ -38,10 +26,10 @@ pub array-head-spec : {M : Type 1} → statement M
 array-head-spec =
     tie.close
     (tie.spec
-    only-array-requires
-    item-at-requires
-    enum-known-n
-    enum-known-n-2
+    (λ c κs. search needs)
+    (λ c κs. search needs)
+    (λ c. search needs)
+    (λ c. search needs)
     returns
     returns-2
     returns-3)

@@ -4,20 +4,11 @@ use mathlib.Core.Path.{sym, ap, _∙_}
 use Rattle.rules.specs.Reader.{readAuthority}
 use Rattle.rules.proofs.Tools.{is-within}
 use Rattle.rules.proofs.Steps.{need-yes, need-no, bind-ok, bind-refused}
-use Rattle.reader.specs.Code.{headIs, readHost}
-use Rattle.reader.proofs.Cases.{under, over}
+use Rattle.reader.specs.Answers.{headIs, readHost}
+use Rattle.reader.proofs.ReaderCases.{under, over}
 use borrow.Author.Needs.{needs}
 use Rattle.reader.proofs.authority_at.Statement.{statement}
 use Rattle.reader.proofs.authority_at.Tie as tie
-
-array-head-requires : tie.Need-array-head-requires
-array-head-requires c κs = search needs
-
-enum-known-n : tie.Need-enum-known-n
-enum-known-n c = search needs
-
-enum-known-items : tie.Need-enum-known-items
-enum-known-items c = search needs
 
 returns : tie.Need-returns
 unfolding readAuthority
@@ -33,9 +24,6 @@ returns-2 c =
     let h = g .before .before in
     need-no _ _ _ _ (over 1 9 (g .items .given .0 .0) (c .if2 .taken))
     ∙ bind-ok _ _ _ (ap (headIs _) (sym (g .items .given .1)) ∙ h .array-head .ensures)
-
-host-at-requires : tie.Need-host-at-requires
-host-at-requires c κs = search needs
 
 returns-3 : tie.Need-returns-3
 unfolding readAuthority
@@ -56,11 +44,11 @@ pub authority-at-spec : {M : Type 1} → statement M
 authority-at-spec =
     tie.close
     (tie.spec
-    array-head-requires
-    enum-known-n
-    enum-known-items
+    (λ c κs. search needs)
+    (λ c. search needs)
+    (λ c. search needs)
     returns
     returns-2
-    host-at-requires
+    (λ c κs. search needs)
     returns-3
     returns-4)

@@ -19,9 +19,6 @@ returns-2 c = λ bs at.
     let a = c .before .before .args in
     need-no _ _ _ _ (lt-leb (a .count) 4 (c .if2 .taken)) ∙ need-yes _ _ _ _ (le-leb (a .n) 127 (omega arith))
 
-lone-zero-requires : tie.Need-lone-zero-requires
-lone-zero-requires c κs = search needs
-
 returns-3 : tie.Need-returns-3
 unfolding openingBody
 returns-3 c = λ bs at.
@@ -41,4 +38,4 @@ returns-4 c = λ bs at.
     ∙ need-yes _ _ _ _ (le-leb (a .n) 127 (omega arith))
 
 pub discard-body-spec : {M : Type 1} → statement M
-discard-body-spec = tie.close (tie.spec returns returns-2 lone-zero-requires returns-3 returns-4)
+discard-body-spec = tie.close (tie.spec returns returns-2 (λ c κs. search needs) returns-3 returns-4)

@@ -5,49 +5,16 @@ use mathlib.Core.Path.{_∙_}
 use Rattle.rules.specs.Head.{Number, Negative, Text, True, Null, codeOf}
 use Rattle.rules.specs.Reader.{openingBody}
 use Rattle.cbor.proofs.Heads.{head-accepted}
-use Rattle.reader.proofs.Items.{item-is, no-other}
-use Rattle.reader.proofs.Cases as cases
+use Rattle.reader.proofs.ItemAnswers.{item-is, no-other}
+use Rattle.reader.proofs.ReaderCases as cases
 use borrow.Author.Needs.{needs}
 use Rattle.reader.proofs.first_at.Statement.{statement}
 use Rattle.reader.proofs.first_at.Tie as tie
-
-may-open-requires : tie.Need-may-open-requires
-may-open-requires c κs = search needs
-
-item-at-requires : tie.Need-item-at-requires
-item-at-requires c κs = search needs
-
-enum-known-n : tie.Need-enum-known-n
-enum-known-n c = search needs
-
-discard-body-requires : tie.Need-discard-body-requires
-discard-body-requires c κs = search needs
-
-enum-known-next : tie.Need-enum-known-next
-enum-known-next c = search needs
-
-discard-all-body-requires : tie.Need-discard-all-body-requires
-discard-all-body-requires c κs = search needs
-
-enum-known-n-2 : tie.Need-enum-known-n-2
-enum-known-n-2 c = search needs
-
-number-body-requires : tie.Need-number-body-requires
-number-body-requires c κs = search needs
-
-enum-known-n-3 : tie.Need-enum-known-n-3
-enum-known-n-3 c = search needs
 
 name-body-requires : tie.Need-name-body-requires
 name-body-requires c κs =
     let i = c .before .before .before in
     head-accepted (item-is _ _ _ _ (i .before .may-open .ensures) (i .item-at .ensures) (c .before .n3 .given .1)) .inside
-
-enum-known-next-2 : tie.Need-enum-known-next-2
-enum-known-next-2 c = search needs
-
-enum-known-n-4 : tie.Need-enum-known-n-4
-enum-known-n-4 c = search needs
 
 returns : tie.Need-returns
 returns c =
@@ -94,18 +61,18 @@ pub first-at-spec : {M : Type 1} → statement M
 first-at-spec =
     tie.close
     (tie.spec
-    may-open-requires
-    item-at-requires
-    enum-known-n
-    discard-body-requires
-    enum-known-next
-    discard-all-body-requires
-    enum-known-n-2
-    number-body-requires
-    enum-known-n-3
+    (λ c κs. search needs)
+    (λ c κs. search needs)
+    (λ c. search needs)
+    (λ c κs. search needs)
+    (λ c. search needs)
+    (λ c κs. search needs)
+    (λ c. search needs)
+    (λ c κs. search needs)
+    (λ c. search needs)
     name-body-requires
-    enum-known-next-2
-    enum-known-n-4
+    (λ c. search needs)
+    (λ c. search needs)
     returns
     returns-2
     returns-3

@@ -4,8 +4,8 @@ use mathlib.Core.List.{[], _∷_}
 use mathlib.Core.Path.{_∙_}
 use Rattle.rules.specs.Head.{codeOf}
 use Rattle.cbor.proofs.Heads.{head-accepted}
-use Rattle.reader.proofs.Items.{item-is, no-other}
-use Rattle.reader.proofs.Cases as cases
+use Rattle.reader.proofs.ItemAnswers.{item-is, no-other}
+use Rattle.reader.proofs.ReaderCases as cases
 use borrow.Author.Needs.{needs}
 use Rattle.reader.proofs.fragment_at.Statement.{statement}
 use Rattle.reader.proofs.fragment_at.Tie as tie
@@ -13,31 +13,10 @@ use Rattle.reader.proofs.fragment_at.Tie as tie
 returns : tie.Need-returns
 returns c = cases.fragment-none _ _ _ (c .if1 .taken)
 
-text-or-null-requires : tie.Need-text-or-null-requires
-text-or-null-requires c κs = search needs
-
-item-at-requires : tie.Need-item-at-requires
-item-at-requires c κs = search needs
-
-enum-known-n : tie.Need-enum-known-n
-enum-known-n c = search needs
-
 fragment-body-requires : tie.Need-fragment-body-requires
 fragment-body-requires c κs =
     let i = c .before .before .before in
     head-accepted (item-is _ _ _ _ (i .before .text-or-null .ensures) (i .item-at .ensures) (c .before .n .given .1)) .inside
-
-enum-known-next : tie.Need-enum-known-next
-enum-known-next c = search needs
-
-sub-null-body : tie.Need-sub-null-body
-sub-null-body c = search needs
-
-null-body-requires : tie.Need-null-body-requires
-null-body-requires c κs = search needs
-
-enum-known-n-2 : tie.Need-enum-known-n-2
-enum-known-n-2 c = search needs
 
 returns-2 : tie.Need-returns-2
 returns-2 c =
@@ -67,14 +46,14 @@ fragment-at-spec =
     tie.close
     (tie.spec
     returns
-    text-or-null-requires
-    item-at-requires
-    enum-known-n
+    (λ c κs. search needs)
+    (λ c κs. search needs)
+    (λ c. search needs)
     fragment-body-requires
-    enum-known-next
-    sub-null-body
-    null-body-requires
-    enum-known-n-2
+    (λ c. search needs)
+    (λ c. search needs)
+    (λ c κs. search needs)
+    (λ c. search needs)
     returns-2
     returns-3
     returns-4

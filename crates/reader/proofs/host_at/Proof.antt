@@ -4,42 +4,21 @@ use mathlib.Core.List.{[], _∷_}
 use mathlib.Core.Path.{_∙_}
 use Rattle.rules.specs.Head.{codeOf}
 use Rattle.cbor.proofs.Heads.{head-accepted}
-use Rattle.reader.proofs.Items.{item-is, no-other}
-use Rattle.reader.proofs.Cases as cases
+use Rattle.reader.proofs.ItemAnswers.{item-is, no-other}
+use Rattle.reader.proofs.ReaderCases as cases
 use borrow.Author.Needs.{needs}
 use Rattle.reader.proofs.host_at.Statement.{statement}
 use Rattle.reader.proofs.host_at.Tie as tie
-
-address-or-label-requires : tie.Need-address-or-label-requires
-address-or-label-requires c κs = search needs
-
-item-at-requires : tie.Need-item-at-requires
-item-at-requires c κs = search needs
-
-enum-known-n : tie.Need-enum-known-n
-enum-known-n c = search needs
-
-sub-address-host : tie.Need-sub-address-host
-sub-address-host c = search needs
 
 address-host-requires : tie.Need-address-host-requires
 address-host-requires c κs =
     let i = c .before .before .before in
     head-accepted (item-is _ _ _ _ (i .before .address-or-label .ensures) (i .item-at .ensures) (c .before .n .given .1)) .inside
 
-enum-known-n-2 : tie.Need-enum-known-n-2
-enum-known-n-2 c = search needs
-
-sub-labels-host : tie.Need-sub-labels-host
-sub-labels-host c = search needs
-
 labels-host-requires : tie.Need-labels-host-requires
 labels-host-requires c κs =
     let i = c .before .before .before in
     (omega arith, item-is _ _ _ _ (i .before .address-or-label .ensures) (i .item-at .ensures) (c .before .n2 .given .1))
-
-enum-known-n-3 : tie.Need-enum-known-n-3
-enum-known-n-3 c = search needs
 
 returns : tie.Need-returns
 returns c =
@@ -68,15 +47,15 @@ pub host-at-spec : {M : Type 1} → statement M
 host-at-spec =
     tie.close
     (tie.spec
-    address-or-label-requires
-    item-at-requires
-    enum-known-n
-    sub-address-host
+    (λ c κs. search needs)
+    (λ c κs. search needs)
+    (λ c. search needs)
+    (λ c. search needs)
     address-host-requires
-    enum-known-n-2
-    sub-labels-host
+    (λ c. search needs)
+    (λ c. search needs)
     labels-host-requires
-    enum-known-n-3
+    (λ c. search needs)
     returns
     returns-2
     returns-3

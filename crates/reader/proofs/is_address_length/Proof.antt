@@ -1,5 +1,5 @@
 -- `reader::is_address_length` meets its contract.
-use Rattle.reader.proofs.Cases.{address-yes, address-no}
+use Rattle.reader.proofs.ReaderCases.{address-yes, address-no}
 use Rattle.reader.proofs.is_address_length.Statement.{statement}
 use Rattle.reader.proofs.is_address_length.Tie as tie
 

@@ -1,22 +1,10 @@
 -- `reader::items_at` meets its contract.
 use mathlib.Core.Path.{sym, ap, _∙_}
 use Rattle.rules.proofs.Steps.{bind-ok, bind-refused}
-use Rattle.reader.specs.Code.{openedIs, readItems}
+use Rattle.reader.specs.Answers.{openedIs, readItems}
 use borrow.Author.Needs.{needs}
 use Rattle.reader.proofs.items_at.Statement.{statement}
 use Rattle.reader.proofs.items_at.Tie as tie
-
-opening-at-requires : tie.Need-opening-at-requires
-opening-at-requires c κs = search needs
-
-enum-known-k : tie.Need-enum-known-k
-enum-known-k c = search needs
-
-enum-known-opening : tie.Need-enum-known-opening
-enum-known-opening c = search needs
-
-rest-at-requires : tie.Need-rest-at-requires
-rest-at-requires c κs = search needs
 
 returns : tie.Need-returns
 unfolding readItems
@@ -34,9 +22,9 @@ pub items-at-spec : {M : Type 1} → statement M
 items-at-spec =
     tie.close
     (tie.spec
-    opening-at-requires
-    enum-known-k
-    enum-known-opening
-    rest-at-requires
+    (λ c κs. search needs)
+    (λ c. search needs)
+    (λ c. search needs)
+    (λ c κs. search needs)
     returns
     returns-2)

@@ -7,30 +7,15 @@ use Rattle.rules.specs.Reader.{labelsHost}
 use Rattle.rules.proofs.Tools.{octets-of}
 use Rattle.rules.proofs.Steps.{need-yes, need-no, bind-ok, bind-refused}
 use Rattle.cbor.proofs.Heads.{head-accepted}
-use Rattle.texts.specs.Code.{stepIs}
-use Rattle.reader.specs.Code.{namesIs}
-use Rattle.reader.proofs.Cases.{labels-stand}
+use Rattle.texts.specs.Answers.{stepIs}
+use Rattle.reader.specs.Answers.{namesIs}
+use Rattle.reader.proofs.ReaderCases.{labels-stand}
 use borrow.Author.Needs.{needs}
 use Rattle.reader.proofs.labels_host.Statement.{statement}
 use Rattle.reader.proofs.labels_host.Tie as tie
 
 label-body-requires : tie.Need-label-body-requires
 label-body-requires c κs = head-accepted (c .before .pre .1) .inside
-
-enum-known-k : tie.Need-enum-known-k
-enum-known-k c = search needs
-
-enum-known-after : tie.Need-enum-known-after
-enum-known-after c = search needs
-
-names-at-requires : tie.Need-names-at-requires
-names-at-requires c κs = search needs
-
-enum-known-k-2 : tie.Need-enum-known-k-2
-enum-known-k-2 c = search needs
-
-enum-known-count : tie.Need-enum-known-count
-enum-known-count c = search needs
 
 name-rule-requires : tie.Need-name-rule-requires
 name-rule-requires c κs =
@@ -89,11 +74,11 @@ labels-host-spec =
     tie.close
     (tie.spec
     label-body-requires
-    enum-known-k
-    enum-known-after
-    names-at-requires
-    enum-known-k-2
-    enum-known-count
+    (λ c. search needs)
+    (λ c. search needs)
+    (λ c κs. search needs)
+    (λ c. search needs)
+    (λ c. search needs)
     name-rule-requires
     returns
     returns-2

@@ -3,19 +3,13 @@ use mathlib.Core.Path.{sym, ap, _∙_}
 use Rattle.rules.specs.Head.{Text}
 use Rattle.rules.specs.Reader.{openingBody}
 use Rattle.rules.proofs.Steps.{bind-ok, bind-refused}
-use Rattle.texts.specs.Code.{stepIs}
+use Rattle.texts.specs.Answers.{stepIs}
 use borrow.Author.Needs.{needs}
 use Rattle.reader.proofs.name_body.Statement.{statement}
 use Rattle.reader.proofs.name_body.Tie as tie
 
 text-body-requires : tie.Need-text-body-requires
 text-body-requires c κs = c .before .pre
-
-enum-known-k : tie.Need-enum-known-k
-enum-known-k c = search needs
-
-enum-known-end : tie.Need-enum-known-end
-enum-known-end c = search needs
 
 returns : tie.Need-returns
 unfolding openingBody
@@ -26,4 +20,4 @@ unfolding openingBody
 returns-2 c = λ at count. bind-ok _ _ _ (ap (stepIs at) (sym (c .before .end .given .1)) ∙ c .before .before .before .text-body .ensures Text at)
 
 pub name-body-spec : {M : Type 1} → statement M
-name-body-spec = tie.close (tie.spec text-body-requires enum-known-k enum-known-end returns returns-2)
+name-body-spec = tie.close (tie.spec text-body-requires (λ c. search needs) (λ c. search needs) returns returns-2)

@@ -6,9 +6,9 @@ use mathlib.Core.Path.{_≡_, refl, sym, ap, _∙_}
 use Rattle.rules.specs.Head.{codeOf}
 use Rattle.rules.specs.Reader.{readNames}
 use Rattle.cbor.proofs.Heads.{head-accepted}
-use Rattle.texts.specs.Code.{stepIs}
-use Rattle.reader.proofs.Items.{item-is, no-other}
-use Rattle.reader.proofs.Cases as cases
+use Rattle.texts.specs.Answers.{stepIs}
+use Rattle.reader.proofs.ItemAnswers.{item-is, no-other}
+use Rattle.reader.proofs.ReaderCases as cases
 use borrow.Author.Needs.{needs}
 use Rattle.reader.proofs.names_at.Statement.{statement}
 use Rattle.reader.proofs.names_at.Tie as tie
@@ -22,22 +22,10 @@ abbrev μ-loop : tie.MeasureT-loop
 loop-holds : tie.Need-loop-holds Inv-loop μ-loop
 loop-holds c = (refl, c .before .pre)
 
-text-or-number-requires : tie.Need-text-or-number-requires Inv-loop μ-loop
-text-or-number-requires c κs = search needs
-
-item-at-requires : tie.Need-item-at-requires Inv-loop μ-loop
-item-at-requires c κs = search needs
-
-enum-known-n : tie.Need-enum-known-n Inv-loop μ-loop
-enum-known-n c = search needs
-
 label-body-requires : tie.Need-label-body-requires Inv-loop μ-loop
 label-body-requires c κs =
     let i = c .before .before .before in
     head-accepted (item-is _ _ _ _ (i .before .text-or-number .ensures) (i .item-at .ensures) (c .before .n .given .1)) .inside
-
-enum-known-k : tie.Need-enum-known-k Inv-loop μ-loop
-enum-known-k c = search needs
 
 returns : tie.Need-returns Inv-loop μ-loop
 returns c =
@@ -46,18 +34,6 @@ returns c =
     let l = i .before .before .before .loop in
     sym (l .inv .0 ∙ cases.label-refused _ _ _ _ (i .before .before .loop-test .taken) _ _ (item-is _ _ _ _ (i .before .text-or-number .ensures) (i .item-at .ensures) (b .before .before .n .given .1)) _ (ap (stepIs (l .here)) (sym (c .before .k .given .1)) ∙ b .label-body .ensures (l .here)))
 
-enum-known-end : tie.Need-enum-known-end Inv-loop μ-loop
-enum-known-end c = search needs
-
-sub-left : tie.Need-sub-left Inv-loop μ-loop
-sub-left c = search needs
-
-add-seen : tie.Need-add-seen Inv-loop μ-loop
-add-seen c = search needs
-
-loop-less : tie.Need-loop-less Inv-loop μ-loop
-loop-less c = search needs
-
 loop-again : tie.Need-loop-again Inv-loop μ-loop
 loop-again c =
     let b = c .before .before .before in
@@ -65,24 +41,12 @@ loop-again c =
     let l = i .before .before .before .loop in
     (l .inv .0 ∙ cases.label-next _ _ _ _ (i .before .before .loop-test .taken) _ _ (item-is _ _ _ _ (i .before .text-or-number .ensures) (i .item-at .ensures) (b .before .before .n .given .1)) _ (ap (stepIs (l .here)) (sym (c .before .end .given .1)) ∙ b .label-body .ensures (l .here)), omega arith)
 
-enum-known-n-2 : tie.Need-enum-known-n-2 Inv-loop μ-loop
-enum-known-n-2 c = search needs
-
-sub-port-body : tie.Need-sub-port-body Inv-loop μ-loop
-sub-port-body c = search needs
-
-port-body-requires : tie.Need-port-body-requires Inv-loop μ-loop
-port-body-requires c κs = search needs
-
 returns-2 : tie.Need-returns-2 Inv-loop μ-loop
 returns-2 c =
     let i = c .before .before .before .before in
     let l = i .before .before .before .loop in
     c .port-body .ensures
     ∙ sym (l .inv .0 ∙ cases.names-port _ _ _ _ (i .before .before .loop-test .taken) _ _ (item-is _ _ _ _ (i .before .text-or-number .ensures) (i .item-at .ensures) (c .before .before .n2 .given .1)))
-
-enum-known-n-3 : tie.Need-enum-known-n-3 Inv-loop μ-loop
-enum-known-n-3 c = search needs
 
 returns-3 : tie.Need-returns-3 Inv-loop μ-loop
 returns-3 c =
@@ -106,22 +70,22 @@ names-at-spec =
     Inv-loop
     μ-loop
     loop-holds
-    text-or-number-requires
-    item-at-requires
-    enum-known-n
+    (λ c κs. search needs)
+    (λ c κs. search needs)
+    (λ c. search needs)
     label-body-requires
-    enum-known-k
+    (λ c. search needs)
     returns
-    enum-known-end
-    sub-left
-    add-seen
-    loop-less
+    (λ c. search needs)
+    (λ c. search needs)
+    (λ c. search needs)
+    (λ c. search needs)
     loop-again
-    enum-known-n-2
-    sub-port-body
-    port-body-requires
+    (λ c. search needs)
+    (λ c. search needs)
+    (λ c κs. search needs)
     returns-2
-    enum-known-n-3
+    (λ c. search needs)
     returns-3
     returns-4
     returns-5)

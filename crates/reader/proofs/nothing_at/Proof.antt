@@ -1,6 +1,6 @@
 -- `reader::nothing_at` meets its contract.
 use native.Mathlib.Omega.{arith}
-use Rattle.reader.proofs.Cases.{nothing-left, nothing-cut, nothing-more}
+use Rattle.reader.proofs.ReaderCases.{nothing-left, nothing-cut, nothing-more}
 use Rattle.reader.proofs.nothing_at.Statement.{statement}
 use Rattle.reader.proofs.nothing_at.Tie as tie
 

@@ -2,8 +2,8 @@
 use native.Mathlib.Omega.{arith}
 use mathlib.Core.Path.{sym, ap, _∙_}
 use denote.Ref.{now}
-use Rattle.reader.specs.Code.{firstIs}
-use Rattle.reader.proofs.Cases as cases
+use Rattle.reader.specs.Answers.{firstIs}
+use Rattle.reader.proofs.ReaderCases as cases
 use borrow.Author.Needs.{needs}
 use Rattle.reader.proofs.opening_at.Statement.{statement}
 use Rattle.reader.proofs.opening_at.Tie as tie
@@ -13,21 +13,6 @@ returns c = cases.opening-none _ _ _ (c .if1 .taken)
 
 first-at-requires : tie.Need-first-at-requires
 first-at-requires c κs = omega arith
-
-enum-known-opening : tie.Need-enum-known-opening
-enum-known-opening c = search needs
-
-sub-t13 : tie.Need-sub-t13
-sub-t13 c = search needs
-
-enum-known-scheme : tie.Need-enum-known-scheme
-enum-known-scheme c = search needs
-
-after-scheme-requires : tie.Need-after-scheme-requires
-after-scheme-requires c κs = search needs
-
-enum-known-n : tie.Need-enum-known-n
-enum-known-n c = search needs
 
 returns-2 : tie.Need-returns-2
 returns-2 c =
@@ -53,11 +38,11 @@ opening-at-spec =
     (tie.spec
     returns
     first-at-requires
-    enum-known-opening
-    sub-t13
-    enum-known-scheme
-    after-scheme-requires
-    enum-known-n
+    (λ c. search needs)
+    (λ c. search needs)
+    (λ c. search needs)
+    (λ c κs. search needs)
+    (λ c. search needs)
     returns-2
     returns-3
     returns-4)

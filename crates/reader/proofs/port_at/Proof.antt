@@ -3,32 +3,14 @@ use native.Mathlib.Omega.{arith}
 use mathlib.Core.List.{[], _∷_}
 use mathlib.Core.Path.{_∙_}
 use Rattle.rules.specs.Head.{codeOf}
-use Rattle.reader.proofs.Items.{item-is, no-other}
-use Rattle.reader.proofs.Cases as cases
+use Rattle.reader.proofs.ItemAnswers.{item-is, no-other}
+use Rattle.reader.proofs.ReaderCases as cases
 use borrow.Author.Needs.{needs}
 use Rattle.reader.proofs.port_at.Statement.{statement}
 use Rattle.reader.proofs.port_at.Tie as tie
 
 returns : tie.Need-returns
 returns c = cases.port-none _ _ _ (c .if1 .taken)
-
-only-number-requires : tie.Need-only-number-requires
-only-number-requires c κs = search needs
-
-item-at-requires : tie.Need-item-at-requires
-item-at-requires c κs = search needs
-
-enum-known-n : tie.Need-enum-known-n
-enum-known-n c = search needs
-
-sub-port-body : tie.Need-sub-port-body
-sub-port-body c = search needs
-
-port-body-requires : tie.Need-port-body-requires
-port-body-requires c κs = search needs
-
-enum-known-n-2 : tie.Need-enum-known-n-2
-enum-known-n-2 c = search needs
 
 returns-2 : tie.Need-returns-2
 returns-2 c =
@@ -52,12 +34,12 @@ port-at-spec =
     tie.close
     (tie.spec
     returns
-    only-number-requires
-    item-at-requires
-    enum-known-n
-    sub-port-body
-    port-body-requires
-    enum-known-n-2
+    (λ c κs. search needs)
+    (λ c κs. search needs)
+    (λ c. search needs)
+    (λ c. search needs)
+    (λ c κs. search needs)
+    (λ c. search needs)
     returns-2
     returns-3
     returns-4)

@@ -3,46 +3,10 @@ use mathlib.Core.Path.{sym, ap, _∙_}
 use Rattle.rules.specs.Reader.{readArray, readFragment}
 use Rattle.rules.specs.Rules.{parameter}
 use Rattle.rules.proofs.Steps.{bind-ok, bind-refused}
-use Rattle.reader.specs.Code.{slotIs, readRest}
+use Rattle.reader.specs.Answers.{slotIs, readRest}
 use borrow.Author.Needs.{needs}
 use Rattle.reader.proofs.rest_at.Statement.{statement}
 use Rattle.reader.proofs.rest_at.Tie as tie
-
-array-at-requires : tie.Need-array-at-requires
-array-at-requires c κs = search needs
-
-enum-known-k : tie.Need-enum-known-k
-enum-known-k c = search needs
-
-enum-known-path : tie.Need-enum-known-path
-enum-known-path c = search needs
-
-minus-requires : tie.Need-minus-requires
-minus-requires c κs = search needs
-
-array-at-requires-2 : tie.Need-array-at-requires-2
-array-at-requires-2 c κs = search needs
-
-enum-known-k-2 : tie.Need-enum-known-k-2
-enum-known-k-2 c = search needs
-
-enum-known-query : tie.Need-enum-known-query
-enum-known-query c = search needs
-
-minus-requires-2 : tie.Need-minus-requires-2
-minus-requires-2 c κs = search needs
-
-fragment-at-requires : tie.Need-fragment-at-requires
-fragment-at-requires c κs = search needs
-
-enum-known-k-3 : tie.Need-enum-known-k-3
-enum-known-k-3 c = search needs
-
-enum-known-fragment : tie.Need-enum-known-fragment
-enum-known-fragment c = search needs
-
-finish-requires : tie.Need-finish-requires
-finish-requires c κs = search needs
 
 returns : tie.Need-returns
 unfolding readRest
@@ -88,18 +52,18 @@ pub rest-at-spec : {M : Type 1} → statement M
 rest-at-spec =
     tie.close
     (tie.spec
-    array-at-requires
-    enum-known-k
-    enum-known-path
-    minus-requires
-    array-at-requires-2
-    enum-known-k-2
-    enum-known-query
-    minus-requires-2
-    fragment-at-requires
-    enum-known-k-3
-    enum-known-fragment
-    finish-requires
+    (λ c κs. search needs)
+    (λ c. search needs)
+    (λ c. search needs)
+    (λ c κs. search needs)
+    (λ c κs. search needs)
+    (λ c. search needs)
+    (λ c. search needs)
+    (λ c κs. search needs)
+    (λ c κs. search needs)
+    (λ c. search needs)
+    (λ c. search needs)
+    (λ c κs. search needs)
     returns
     returns-2
     returns-3

@@ -3,28 +3,16 @@ use mathlib.Core.List.{[], _∷_}
 use mathlib.Core.Path.{_∙_}
 use Rattle.rules.specs.Head.{codeOf, Text}
 use Rattle.cbor.proofs.Heads.{head-accepted}
-use Rattle.reader.proofs.Items.{item-is, no-other}
-use Rattle.reader.proofs.Cases.{text-body, text-refused}
+use Rattle.reader.proofs.ItemAnswers.{item-is, no-other}
+use Rattle.reader.proofs.ReaderCases.{text-body, text-refused}
 use borrow.Author.Needs.{needs}
 use Rattle.reader.proofs.text_at.Statement.{statement}
 use Rattle.reader.proofs.text_at.Tie as tie
-
-only-text-requires : tie.Need-only-text-requires
-only-text-requires c κs = search needs
-
-item-at-requires : tie.Need-item-at-requires
-item-at-requires c κs = search needs
-
-enum-known-n : tie.Need-enum-known-n
-enum-known-n c = search needs
 
 text-body-requires : tie.Need-text-body-requires
 text-body-requires c κs =
     let i = c .before .before .before in
     head-accepted (item-is _ _ _ _ (i .before .only-text .ensures) (i .item-at .ensures) (c .before .n .given .1)) .inside
-
-enum-known-n-2 : tie.Need-enum-known-n-2
-enum-known-n-2 c = search needs
 
 returns : tie.Need-returns
 returns c =
@@ -47,11 +35,11 @@ pub text-at-spec : {M : Type 1} → statement M
 text-at-spec =
     tie.close
     (tie.spec
-    only-text-requires
-    item-at-requires
-    enum-known-n
+    (λ c κs. search needs)
+    (λ c κs. search needs)
+    (λ c. search needs)
     text-body-requires
-    enum-known-n-2
+    (λ c. search needs)
     returns
     returns-2
     returns-3)

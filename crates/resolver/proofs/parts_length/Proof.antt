@@ -1,6 +1,6 @@
 -- `resolver::parts_length` meets its contract.
 use native.Mathlib.Omega.{arith}
-use Rattle.resolver.proofs.Items.{head-most-path}
+use Rattle.resolver.proofs.ResultItems.{head-most-path}
 use Rattle.resolver.proofs.Encoded.{parts-length}
 use borrow.Author.Needs.{needs}
 use Rattle.resolver.proofs.parts_length.Statement.{statement}
@@ -11,9 +11,6 @@ both-length-requires c κs = c .before .before .before .before .before .pre .fro
 
 add-result : tie.Need-add-result
 add-result c = omega (arith, c .both-length .ensures, c .before .before .before .before .before .before .pre .front .ofBase, c .before .before .before .before .before .before .pre .front .ofReference)
-
-path-head-length-requires : tie.Need-path-head-length-requires
-path-head-length-requires c κs = search needs
 
 add-result-2 : tie.Need-add-result-2
 add-result-2 c = omega (arith, c .path-head-length .ensures, head-most-path (c .before .before .before .before .before .before .before .args .p .path .count) (c .before .before .before .before .before .before .before .args .p .tail .count), c .before .both-length .ensures, c .before .before .before .before .before .before .before .pre .front .ofBase, c .before .before .before .before .before .before .before .pre .front .ofReference)
@@ -43,7 +40,7 @@ parts-length-spec =
     (tie.spec
     both-length-requires
     add-result
-    path-head-length-requires
+    (λ c κs. search needs)
     add-result-2
     both-length-requires-2
     add-result-3

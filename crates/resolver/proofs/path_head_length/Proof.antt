@@ -2,19 +2,13 @@
 use mathlib.Core.Path.{ap, _∙_}
 use Rattle.rules.specs.Head.{Array}
 use lib.ListN.{length}
-use Rattle.resolver.proofs.Items.{head-path, head-items}
+use Rattle.resolver.proofs.ResultItems.{head-path, head-items}
 use borrow.Author.Needs.{needs}
 use Rattle.resolver.proofs.path_head_length.Statement.{statement}
 use Rattle.resolver.proofs.path_head_length.Tie as tie
 
-head-length-requires : tie.Need-head-length-requires
-head-length-requires c κs = search needs
-
 returns : tie.Need-returns
 returns c = c .head-length .ensures Array ∙ ap length (head-path _ _ (c .before .if1 .taken))
-
-path-items-requires : tie.Need-path-items-requires
-path-items-requires c κs = search needs
 
 returns-2 : tie.Need-returns-2
 returns-2 c = c .path-items .ensures ∙ head-items _ _ (c .before .if1 .left)
@@ -23,7 +17,7 @@ pub path-head-length-spec : {M : Type 1} → statement M
 path-head-length-spec =
     tie.close
     (tie.spec
-    head-length-requires
+    (λ c κs. search needs)
     returns
-    path-items-requires
+    (λ c κs. search needs)
     returns-2)

@@ -1,5 +1,5 @@
 -- `resolver::path_items` meets its contract.
-use Rattle.resolver.proofs.Items.{items-path, items-null, items-none}
+use Rattle.resolver.proofs.ResultItems.{items-path, items-null, items-none}
 use Rattle.resolver.proofs.path_items.Statement.{statement}
 use Rattle.resolver.proofs.path_items.Tie as tie
 

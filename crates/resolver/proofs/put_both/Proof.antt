@@ -2,8 +2,8 @@
 use native.Mathlib.Omega.{arith}
 use denote.Ref.{now}
 use Rattle.rules.proofs.Tools.{length-part}
-use Rattle.put.proofs.Laws.{wrote-then, wrote-length}
-use Rattle.resolved_parts.specs.Parts.{bothOf}
+use Rattle.put.proofs.Wrote.{wrote-then, wrote-length}
+use Rattle.resolver_parts.specs.Parts.{bothOf}
 use borrow.Author.Needs.{needs}
 use Rattle.resolver.proofs.put_both.Statement.{statement}
 use Rattle.resolver.proofs.put_both.Tie as tie
@@ -17,9 +17,6 @@ put-part-requires-2 c κs =
     let p = c .before .before .before .put-part .ensures in
     (s .pre .0 .ofReference, omega (arith, p .place, wrote-length p, length-part (now (s .args .base)) (s .args .b .base .start) (s .args .b .base .length) (s .pre .0 .ofBase), s .pre .1))
 
-same-length : tie.Need-same-length
-same-length c = search needs
-
 returns : tie.Need-returns
 unfolding bothOf
 returns c = wrote-then (c .before .before .before .before .before .before .put-part .ensures) (c .before .before .put-part2 .ensures)
@@ -30,5 +27,5 @@ put-both-spec =
     (tie.spec
     put-part-requires
     put-part-requires-2
-    same-length
+    (λ c. search needs)
     returns)

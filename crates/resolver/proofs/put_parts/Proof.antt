@@ -3,16 +3,13 @@ use native.Mathlib.Omega.{arith}
 use mathlib.Core.Path.{ap}
 use denote.Ref.{now}
 use Rattle.rules.specs.Head.{headBytes, Array}
-use Rattle.put.proofs.Laws.{wrote-then, wrote-as, wrote-length}
+use Rattle.put.proofs.Wrote.{wrote-then, wrote-as, wrote-length}
 use Rattle.resolver.specs.Written.{partsOf}
-use Rattle.resolver.proofs.Items.{items-most}
+use Rattle.resolver.proofs.ResultItems.{items-most}
 use Rattle.resolver.proofs.Encoded.{counted, sizes}
 use borrow.Author.Needs.{needs}
 use Rattle.resolver.proofs.put_parts.Statement.{statement}
 use Rattle.resolver.proofs.put_parts.Tie as tie
-
-path-items-requires : tie.Need-path-items-requires
-path-items-requires c κs = search needs
 
 add-count : tie.Need-add-count
 add-count c =
@@ -80,9 +77,6 @@ put-both-requires-3 c κs =
     let v = t .put-both2 .ensures in
     (s .pre .0 .1 .tail, omega (arith, z .head, z .front, z .path, z .total, s .pre .1, p .place, wrote-length p, q .place, wrote-length q, r .place, wrote-length r, v .place, wrote-length v))
 
-same-length : tie.Need-same-length
-same-length c = search needs
-
 returns : tie.Need-returns
 unfolding partsOf
 returns c =
@@ -100,7 +94,7 @@ pub put-parts-spec : {M : Type 1} → statement M
 put-parts-spec =
     tie.close
     (tie.spec
-    path-items-requires
+    (λ c κs. search needs)
     add-count
     add-count-2
     put-head-requires
@@ -108,5 +102,5 @@ put-parts-spec =
     put-path-head-requires
     put-both-requires-2
     put-both-requires-3
-    same-length
+    (λ c. search needs)
     returns)

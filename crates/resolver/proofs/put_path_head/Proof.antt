@@ -2,8 +2,8 @@
 use native.Mathlib.Omega.{arith}
 use mathlib.Core.Path.{ap}
 use lib.ListN.{length}
-use Rattle.put.proofs.Laws.{wrote-as, wrote-none}
-use Rattle.resolver.proofs.Items.{head-path, head-null, head-none}
+use Rattle.put.proofs.Wrote.{wrote-as, wrote-none}
+use Rattle.resolver.proofs.ResultItems.{head-path, head-null, head-none}
 use borrow.Author.Needs.{needs}
 use Rattle.resolver.proofs.put_path_head.Statement.{statement}
 use Rattle.resolver.proofs.put_path_head.Tie as tie
@@ -11,17 +11,11 @@ use Rattle.resolver.proofs.put_path_head.Tie as tie
 put-head-requires : tie.Need-put-head-requires
 put-head-requires c κs = omega (arith, c .before .before .before .pre, ap length (head-path (c .before .before .before .args .segments) (c .before .before .before .args .further) (c .before .if1 .taken)))
 
-same-length : tie.Need-same-length
-same-length c = search needs
-
 returns : tie.Need-returns
 returns c = wrote-as (head-path _ _ (c .before .before .before .before .if1 .taken)) (c .before .before .put-head .ensures)
 
 put-head-requires-2 : tie.Need-put-head-requires-2
 put-head-requires-2 c κs = omega (arith, c .before .before .before .before .pre, ap length (head-null (c .before .before .before .before .args .segments) (c .before .before .before .before .args .further) (c .before .before .if1 .left) (c .before .if2 .taken)))
-
-same-length-2 : tie.Need-same-length-2
-same-length-2 c = search needs
 
 returns-2 : tie.Need-returns-2
 returns-2 c = wrote-as (head-null _ _ (c .before .before .before .before .before .if1 .left) (c .before .before .before .before .if2 .taken)) (c .before .before .put-head2 .ensures)
@@ -34,9 +28,9 @@ put-path-head-spec =
     tie.close
     (tie.spec
     put-head-requires
-    same-length
+    (λ c. search needs)
     returns
     put-head-requires-2
-    same-length-2
+    (λ c. search needs)
     returns-2
     returns-3)

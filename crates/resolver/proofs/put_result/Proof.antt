@@ -2,15 +2,12 @@
 use native.Mathlib.Omega.{arith}
 use mathlib.Core.Path.{_∙_}
 use denote.Ref.{now}
-use Rattle.outcomes.proofs.Laws.{right-refused, right-full, right-done}
+use Rattle.outcomes.proofs.Answers.{right-refused, right-full, right-done}
 use Rattle.resolver.specs.Written.{partsOf}
 use Rattle.resolver.proofs.Encoded.{over-segments, over-bytes, within-both}
 use borrow.Author.Needs.{needs}
 use Rattle.resolver.proofs.put_result.Statement.{statement}
 use Rattle.resolver.proofs.put_result.Tie as tie
-
-refused-requires : tie.Need-refused-requires
-refused-requires c κs = search needs
 
 returns : tie.Need-returns
 returns c =
@@ -24,9 +21,6 @@ returns c =
 parts-length-requires : tie.Need-parts-length-requires
 parts-length-requires c κs = c .before .before .before .before .before .before .pre .0
 
-refused-requires-2 : tie.Need-refused-requires-2
-refused-requires-2 c κs = search needs
-
 returns-2 : tie.Need-returns-2
 returns-2 c =
     let s = c .before .before .before .before .before .before .before .before .before in
@@ -35,9 +29,6 @@ returns-2 c =
     let p = s .args .p in
     let u = right-refused 9 (over-bytes base ref p (omega (arith, c .before .before .parts-length .ensures base ref (s .pre .1), c .before .if2 .taken))) in
     (c .refused2 .ensures ∙ u .answered, u .holds)
-
-refused-requires-3 : tie.Need-refused-requires-3
-refused-requires-3 c κs = search needs
 
 returns-3 : tie.Need-returns-3
 returns-3 c =
@@ -57,9 +48,6 @@ put-parts-requires c κs =
     let p = s .args .p in
     ((s .pre .0, s .pre .1), omega (arith, c .before .before .before .parts-length .ensures base ref (s .pre .1), c .before .if3 .left))
 
-same-length : tie.Need-same-length
-same-length c = search needs
-
 returns-4 : tie.Need-returns-4
 returns-4 c =
     let s = c .before .before .before .before .before .before .before .before .before .before .before .before .before in
@@ -74,13 +62,13 @@ pub put-result-spec : {M : Type 1} → statement M
 put-result-spec =
     tie.close
     (tie.spec
-    refused-requires
+    (λ c κs. search needs)
     returns
     parts-length-requires
-    refused-requires-2
+    (λ c κs. search needs)
     returns-2
-    refused-requires-3
+    (λ c κs. search needs)
     returns-3
     put-parts-requires
-    same-length
+    (λ c. search needs)
     returns-4)

@@ -9,36 +9,12 @@ use Rattle.rules.proofs.Tools.{octets-of}
 use Rattle.rules.proofs.Steps.{ok-at}
 use Rattle.rules.proofs.Standing.{read-size}
 use Rattle.rules.proofs.Laid.{laid}
-use Rattle.reader.specs.Code.{answerIs}
-use Rattle.outcomes.proofs.Laws.{right-refused}
+use Rattle.reader.specs.Answers.{answerIs}
+use Rattle.outcomes.proofs.Answers.{right-refused}
 use Rattle.resolver.proofs.Encoded.{parts-inside, parts-small, ruled-parts, base-says, base-refused, reference-refused, read-reference}
 use borrow.Author.Needs.{needs}
 use Rattle.resolver.proofs.resolve.Statement.{statement}
 use Rattle.resolver.proofs.resolve.Tie as tie
-
-read-base-requires : tie.Need-read-base-requires
-read-base-requires c κs = search needs
-
-enum-known-k : tie.Need-enum-known-k
-enum-known-k c = search needs
-
-refused-requires : tie.Need-refused-requires
-refused-requires c κs = search needs
-
-enum-known-b : tie.Need-enum-known-b
-enum-known-b c = search needs
-
-read-requires : tie.Need-read-requires
-read-requires c κs = search needs
-
-enum-known-k-2 : tie.Need-enum-known-k-2
-enum-known-k-2 c = search needs
-
-refused-requires-2 : tie.Need-refused-requires-2
-refused-requires-2 c κs = search needs
-
-enum-known-r : tie.Need-enum-known-r
-enum-known-r c = search needs
 
 parts-of-requires : tie.Need-parts-of-requires
 parts-of-requires c κs =
@@ -78,9 +54,6 @@ returns-2 c =
     let u = right-refused _ (reference-refused base ref _ _ _ (d .absolute) (sym (c .before .before .before .before .read .ensures) ∙ ap answerIs (c .before .before .k2 .given .1))) in
     (c .refused2 .ensures ∙ u .answered, u .holds)
 
-same-length : tie.Need-same-length
-same-length c = search needs
-
 returns-3 : tie.Need-returns-3
 returns-3 c =
     let s = c .before .before .before .before .before .before .before .before .before .before .before .before .before .before .before .before in
@@ -98,17 +71,17 @@ pub resolve-spec : {M : Type 1} → statement M
 resolve-spec =
     tie.close
     (tie.spec
-    read-base-requires
-    enum-known-k
-    refused-requires
-    enum-known-b
-    read-requires
-    enum-known-k-2
-    refused-requires-2
-    enum-known-r
+    (λ c κs. search needs)
+    (λ c. search needs)
+    (λ c κs. search needs)
+    (λ c. search needs)
+    (λ c κs. search needs)
+    (λ c. search needs)
+    (λ c κs. search needs)
+    (λ c. search needs)
     parts-of-requires
     put-result-requires
     returns
     returns-2
-    same-length
+    (λ c. search needs)
     returns-3)

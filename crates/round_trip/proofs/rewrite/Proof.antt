@@ -5,17 +5,11 @@ use lib.ListN.{length}
 use denote.Ref.{now}
 use Rattle.rules.proofs.Tools.{octets-of}
 use Rattle.rules.specs.Calls.{Ruling, outcome, after}
-use Rattle.outcomes.proofs.Laws.{right-refused}
+use Rattle.outcomes.proofs.Answers.{right-refused}
 use Rattle.round_trip.proofs.Rewriting.{again-refused, again-written}
 use borrow.Author.Needs.{needs}
 use Rattle.round_trip.proofs.rewrite.Statement.{statement}
 use Rattle.round_trip.proofs.rewrite.Tie as tie
-
-read-requires : tie.Need-read-requires
-read-requires c κs = search needs
-
-refused-requires : tie.Need-refused-requires
-refused-requires c κs = search needs
 
 returns : tie.Need-returns
 returns c =
@@ -23,12 +17,6 @@ returns c =
     let args = m .before .before .before .args in
     let u = right-refused {room = now (args .room)} (m .read .result .number) (again-refused (now (args .s)) (m .read .result) (m .read .ensures) (c .before .if1 .taken)) in
     (c .refused .ensures ∙ u .answered, u .holds)
-
-write-requires : tie.Need-write-requires
-write-requires c κs = search needs
-
-same-length : tie.Need-same-length
-same-length c = search needs
 
 returns-2 : tie.Need-returns-2
 returns-2 c =
@@ -45,4 +33,4 @@ returns-2 c =
 pub rewrite-spec : {M : Type 1} → statement M
 rewrite-spec =
     tie.close
-    (tie.spec read-requires refused-requires returns write-requires same-length returns-2)
+    (tie.spec (λ c κs. search needs) (λ c κs. search needs) returns (λ c κs. search needs) (λ c. search needs) returns-2)

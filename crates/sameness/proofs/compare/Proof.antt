@@ -4,19 +4,13 @@ use denote.Ref.{now}
 use Rattle.rules.proofs.Tools.{octets-of}
 use Rattle.rules.specs.Model.{limits}
 use Rattle.rules.specs.Calls.{textCall}
-use Rattle.outcomes.specs.Answer.{doneIs}
-use Rattle.outcomes.proofs.Laws.{Right}
+use Rattle.outcomes.specs.Answers.{doneIs}
+use Rattle.outcomes.proofs.Answers.{Right}
 use Rattle.sameness.specs.declared.Compared.{Compared}
-use Rattle.sameness.proofs.Laws.{length-inside, both-printed, both-answered}
+use Rattle.sameness.proofs.Answers.{length-inside, both-printed, both-answered}
 use borrow.Author.Needs.{needs}
 use Rattle.sameness.proofs.compare.Statement.{statement}
 use Rattle.sameness.proofs.compare.Tie as tie
-
-uri-text-requires : tie.Need-uri-text-requires
-uri-text-requires c κs = search needs
-
-uri-text-requires-2 : tie.Need-uri-text-requires-2
-uri-text-requires-2 c κs = search needs
 
 wrote-same-requires : tie.Need-wrote-same-requires
 wrote-same-requires c κs =
@@ -25,12 +19,6 @@ wrote-same-requires c κs =
       length-inside (record { answered = u .uri-text .ensures .0; holds = u .uri-text .ensures .1 }),
       length-inside (record { answered = v .uri-text2 .ensures .0; holds = v .uri-text2 .ensures .1 }),
     )
-
-same-length : tie.Need-same-length
-same-length c = search needs
-
-same-length-2 : tie.Need-same-length-2
-same-length-2 c = search needs
 
 returns : tie.Need-returns
 returns c =
@@ -53,4 +41,4 @@ returns c =
 pub compare-spec : {M : Type 1} → statement M
 compare-spec =
     tie.close
-    (tie.spec uri-text-requires uri-text-requires-2 wrote-same-requires same-length same-length-2 returns)
+    (tie.spec (λ c κs. search needs) (λ c κs. search needs) wrote-same-requires (λ c. search needs) (λ c. search needs) returns)

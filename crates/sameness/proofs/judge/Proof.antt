@@ -2,19 +2,10 @@
 use native.Mathlib.Omega.{arith}
 use denote.Ref.{now}
 use Rattle.rules.proofs.Tools.{octets-of}
-use Rattle.sameness.proofs.Laws.{both-judged}
+use Rattle.sameness.proofs.Answers.{both-judged}
 use borrow.Author.Needs.{needs}
 use Rattle.sameness.proofs.judge.Statement.{statement}
 use Rattle.sameness.proofs.judge.Tie as tie
-
-slice-aggregate-compare : tie.Need-slice-aggregate-compare
-slice-aggregate-compare c = search needs
-
-slice-aggregate-compare-2 : tie.Need-slice-aggregate-compare-2
-slice-aggregate-compare-2 c = search needs
-
-compare-requires : tie.Need-compare-requires
-compare-requires c κs = search needs
 
 returns : tie.Need-returns
 returns c =
@@ -28,4 +19,4 @@ returns c =
     both-judged a b _ _ (m .compare .result) ha hb (omega arith) (omega arith) (m .compare .ensures .0)
 
 pub judge-spec : {M : Type 1} → statement M
-judge-spec = tie.close (tie.spec slice-aggregate-compare slice-aggregate-compare-2 compare-requires returns)
+judge-spec = tie.close (tie.spec (λ c. search needs) (λ c. search needs) (λ c κs. search needs) returns)

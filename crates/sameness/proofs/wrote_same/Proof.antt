@@ -2,7 +2,7 @@
 use native.Mathlib.Omega.{arith}
 use mathlib.Core.Path.{sym}
 use lib.Seq.{length-take-le}
-use Rattle.sameness.proofs.Laws.{never-equal, wrote-both}
+use Rattle.sameness.proofs.Answers.{never-equal, wrote-both}
 use borrow.Author.Needs.{needs}
 use Rattle.sameness.proofs.wrote_same.Statement.{statement}
 use Rattle.sameness.proofs.wrote_same.Tie as tie
@@ -16,11 +16,8 @@ returns-2 c = never-equal (λ w. omega arith)
 slice-aggregate-same-at : tie.Need-slice-aggregate-same-at
 slice-aggregate-same-at c = sym (length-take-le _ _ (omega arith))
 
-same-at-requires : tie.Need-same-at-requires
-same-at-requires c κs = search needs
-
 returns-3 : tie.Need-returns-3
 returns-3 c = wrote-both (omega arith) (omega arith) (c .same-at .ensures)
 
 pub wrote-same-spec : {M : Type 1} → statement M
-wrote-same-spec = tie.close (tie.spec returns returns-2 slice-aggregate-same-at same-at-requires returns-3)
+wrote-same-spec = tie.close (tie.spec returns returns-2 slice-aggregate-same-at (λ c κs. search needs) returns-3)

@@ -5,10 +5,10 @@ use mathlib.Core.Path.{_≡_, ap}
 use lib.ListN.{length}
 use denote.Ref.{now}
 use Rattle.rules.specs.Reader.{contents}
-use Rattle.rules.proofs.Texts.{Items}
-use Rattle.rules.proofs.Walk.{First, first, first-stands, none-left}
-use Rattle.texts.specs.Code.{dottedLength}
-use Rattle.texts.proofs.Cases.{dotted-next}
+use Rattle.rules.specs.Standing.{RowAt}
+use Rattle.rules.proofs.RowWalk.{First, first, first-stands, none-left}
+use Rattle.texts.specs.Answers.{dottedLength}
+use Rattle.texts.proofs.RuleCases.{dotted-next}
 use borrow.Author.Needs.{needs}
 use Rattle.texts.proofs.dotted_length.Statement.{statement}
 use Rattle.texts.proofs.dotted_length.Tie as tie
@@ -18,7 +18,7 @@ use Rattle.cbor.proofs.span_at.Reads as span-at-reads
 
 abbrev Inv-loop : tie.InvT-loop
 Inv-loop s at count here₀ left₀ total₀ here left total =
-    Items s here left × (here ≤ length s) × (at + total ≤ here) × (dottedLength (contents s at count) ≡ total + dottedLength (contents s here left))
+    RowAt s here left × (here ≤ length s) × (at + total ≤ here) × (dottedLength (contents s at count) ≡ total + dottedLength (contents s here left))
 
 abbrev μ-loop : tie.MeasureT-loop
 μ-loop s at count here₀ left₀ total₀ here left total = left
@@ -43,12 +43,6 @@ add-total c = let f = next (c .before .before) in omega (arith, f .after, f .ins
 add-total-2 : tie.Need-add-total-2 Inv-loop μ-loop
 add-total-2 c = let f = next (c .before .before) in omega (arith, f .after, f .inside)
 
-sub-left : tie.Need-sub-left Inv-loop μ-loop
-sub-left c = search needs
-
-loop-less : tie.Need-loop-less Inv-loop μ-loop
-loop-less c = search needs
-
 loop-again : tie.Need-loop-again Inv-loop μ-loop
 loop-again c =
     let f = next (c .before .before) in
@@ -69,7 +63,7 @@ dotted-length-spec =
     add-here
     add-total
     add-total-2
-    sub-left
-    loop-less
+    (λ c. search needs)
+    (λ c. search needs)
     loop-again
     returns)

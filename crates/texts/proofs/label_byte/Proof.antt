@@ -9,12 +9,9 @@ returns : tie.Need-returns
 unfolding labelByte
 returns c = simp (eq-eqb _ _ (c .if1 .taken))
 
-inside-requires : tie.Need-inside-requires
-inside-requires c κs = search needs
-
 returns-2 : tie.Need-returns-2
 unfolding labelByte
 returns-2 c = simp (ne-eqb _ _ (c .before .if1 .left), c .inside .ensures)
 
 pub label-byte-spec : {M : Type 1} → statement M
-label-byte-spec = tie.close (tie.spec returns inside-requires returns-2)
+label-byte-spec = tie.close (tie.spec returns (λ c κs. search needs) returns-2)

@@ -5,9 +5,9 @@ use denote.Ref.{now}
 use Rattle.rules.specs.Bytes.{all}
 use Rattle.rules.specs.Rules.{octet, looksIPv4}
 use Rattle.rules.specs.Reader.{contents}
-use Rattle.rules.proofs.Texts.{Items}
-use Rattle.rules.proofs.Walk.{First, first, first-stands, none-left}
-use Rattle.texts.proofs.Cases.{looks-other, looks-four, all-next, all-no}
+use Rattle.rules.specs.Standing.{RowAt}
+use Rattle.rules.proofs.RowWalk.{First, first, first-stands, none-left}
+use Rattle.texts.proofs.RuleCases.{looks-other, looks-four, all-next, all-no}
 use borrow.Author.Needs.{needs}
 use Rattle.texts.proofs.looks_ipv4.Statement.{statement}
 use Rattle.texts.proofs.looks_ipv4.Tie as tie
@@ -17,7 +17,7 @@ use Rattle.cbor.proofs.span_at.Reads as span-at-reads
 use Rattle.texts.proofs.octet_at.Reads as octet-at-reads
 
 abbrev Inv-loop : tie.InvT-loop
-Inv-loop s at count here₀ left₀ here left = Items s here left × (looksIPv4 (contents s at count) ≡ all octet (contents s here left))
+Inv-loop s at count here₀ left₀ here left = RowAt s here left × (looksIPv4 (contents s at count) ≡ all octet (contents s here left))
 
 abbrev μ-loop : tie.MeasureT-loop
 μ-loop s at count here₀ left₀ here left = left
@@ -41,12 +41,6 @@ octet-at-requires c κs = next c .inside
 
 add-here : tie.Need-add-here Inv-loop μ-loop
 add-here c = omega (arith, next (c .before .before .before) .inside)
-
-sub-left : tie.Need-sub-left Inv-loop μ-loop
-sub-left c = search needs
-
-loop-less : tie.Need-loop-less Inv-loop μ-loop
-loop-less c = search needs
 
 loop-again : tie.Need-loop-again Inv-loop μ-loop
 loop-again c =
@@ -73,8 +67,8 @@ looks-ipv4-spec =
     span-at-requires
     octet-at-requires
     add-here
-    sub-left
-    loop-less
+    (λ c. search needs)
+    (λ c. search needs)
     loop-again
     returns-2
     returns-3)

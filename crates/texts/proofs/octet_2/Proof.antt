@@ -5,12 +5,6 @@ use borrow.Author.Needs.{needs}
 use Rattle.texts.proofs.octet_2.Statement.{statement}
 use Rattle.texts.proofs.octet_2.Tie as tie
 
-inside-requires : tie.Need-inside-requires
-inside-requires c κs = search needs
-
-octet-1-requires : tie.Need-octet-1-requires
-octet-1-requires c κs = search needs
-
 returns : tie.Need-returns
 unfolding octet
 returns c = simp (sym (c .before .before .inside .ensures) ∙ c .before .if1 .taken) (c .octet-1 .ensures)
@@ -20,4 +14,4 @@ unfolding octet
 returns-2 c = simp (sym (c .before .inside .ensures) ∙ c .if1 .left)
 
 pub octet-2-spec : {M : Type 1} → statement M
-octet-2-spec = tie.close (tie.spec inside-requires octet-1-requires returns returns-2)
+octet-2-spec = tie.close (tie.spec (λ c κs. search needs) (λ c κs. search needs) returns returns-2)

@@ -1,27 +1,9 @@
 -- `texts::octet_3` meets its contract.
 use mathlib.Core.Path.{sym, _∙_}
-use Rattle.texts.proofs.Cases.{octet-three}
+use Rattle.texts.proofs.RuleCases.{octet-three}
 use borrow.Author.Needs.{needs}
 use Rattle.texts.proofs.octet_3.Statement.{statement}
 use Rattle.texts.proofs.octet_3.Tie as tie
-
-octet-2-requires : tie.Need-octet-2-requires
-octet-2-requires c κs = search needs
-
-octet-1-requires : tie.Need-octet-1-requires
-octet-1-requires c κs = search needs
-
-mul-result : tie.Need-mul-result
-mul-result c = search needs
-
-mul-result-2 : tie.Need-mul-result-2
-mul-result-2 c = search needs
-
-add-result : tie.Need-add-result
-add-result c = search needs
-
-add-result-2 : tie.Need-add-result-2
-add-result-2 c = search needs
 
 returns : tie.Need-returns
 returns c =
@@ -42,12 +24,12 @@ pub octet-3-spec : {M : Type 1} → statement M
 octet-3-spec =
     tie.close
     (tie.spec
-    octet-2-requires
-    octet-1-requires
-    mul-result
-    mul-result-2
-    add-result
-    add-result-2
+    (λ c κs. search needs)
+    (λ c κs. search needs)
+    (λ c. search needs)
+    (λ c. search needs)
+    (λ c. search needs)
+    (λ c. search needs)
     returns
     returns-2
     returns-3)

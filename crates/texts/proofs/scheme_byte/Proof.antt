@@ -7,15 +7,9 @@ use borrow.Author.Needs.{needs}
 use Rattle.texts.proofs.scheme_byte.Statement.{statement}
 use Rattle.texts.proofs.scheme_byte.Tie as tie
 
-inside-requires : tie.Need-inside-requires
-inside-requires c κs = search needs
-
 returns : tie.Need-returns
 unfolding schemeByte
 returns c = simp (sym (c .before .inside .ensures) ∙ c .if1 .taken)
-
-inside-requires-2 : tie.Need-inside-requires-2
-inside-requires-2 c κs = search needs
 
 returns-2 : tie.Need-returns-2
 unfolding schemeByte
@@ -36,4 +30,4 @@ returns-5 c = simp (sym (c .before .before .before .before .before .inside .ensu
 pub scheme-byte-spec : {M : Type 1} → statement M
 scheme-byte-spec =
     tie.close
-    (tie.spec inside-requires returns inside-requires-2 returns-2 returns-3 returns-4 returns-5)
+    (tie.spec (λ c κs. search needs) returns (λ c κs. search needs) returns-2 returns-3 returns-4 returns-5)

@@ -2,7 +2,7 @@
 use Prim.Native.Nat.{_+_, _-_}
 use mathlib.Core.Path.{sym, _∙_}
 use Rattle.rules.specs.Rules.{schemeByte}
-use Rattle.texts.proofs.Walk.{Tested, tested-none, tested-next, tested-no, tested-all}
+use Rattle.texts.proofs.ByteWalk.{Tested, tested-none, tested-next, tested-no, tested-all}
 use borrow.Author.Needs.{needs}
 use Rattle.texts.proofs.scheme_bytes.Statement.{statement}
 use Rattle.texts.proofs.scheme_bytes.Tie as tie
@@ -13,23 +13,8 @@ Inv-loop s from n end i₀ i = Tested schemeByte s from n i
 abbrev μ-loop : tie.MeasureT-loop
 μ-loop s from n end i₀ i = from + n - i
 
-add-end : tie.Need-add-end Inv-loop μ-loop
-add-end c = search needs
-
 loop-holds : tie.Need-loop-holds Inv-loop μ-loop
 loop-holds c = tested-none _ _ _ _ (c .before .pre)
-
-shared-slice-read-scheme-byte : tie.Need-shared-slice-read-scheme-byte Inv-loop μ-loop
-shared-slice-read-scheme-byte c = search needs
-
-scheme-byte-requires : tie.Need-scheme-byte-requires Inv-loop μ-loop
-scheme-byte-requires c κs = search needs
-
-add-i : tie.Need-add-i Inv-loop μ-loop
-add-i c = search needs
-
-loop-less : tie.Need-loop-less Inv-loop μ-loop
-loop-less c = search needs
 
 loop-again : tie.Need-loop-again Inv-loop μ-loop
 loop-again c =
@@ -50,12 +35,12 @@ scheme-bytes-spec =
     (tie.spec
     Inv-loop
     μ-loop
-    add-end
+    (λ c. search needs)
     loop-holds
-    shared-slice-read-scheme-byte
-    scheme-byte-requires
-    add-i
-    loop-less
+    (λ c. search needs)
+    (λ c κs. search needs)
+    (λ c. search needs)
+    (λ c. search needs)
     loop-again
     returns
     returns-2)

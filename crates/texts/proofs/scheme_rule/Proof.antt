@@ -2,27 +2,18 @@
 use mathlib.Core.Path.{sym, ap, _∙_}
 use mathlib.Core.Bool.{not}
 use Rattle.rules.specs.Rules.{schemeRule}
-use Rattle.texts.specs.Code.{knownName}
-use Rattle.texts.proofs.Cases.{not-any}
+use Rattle.schemes.specs.Schemes.{knownName}
+use Rattle.texts.proofs.RuleCases.{not-any}
 use borrow.Author.Needs.{needs}
 use Rattle.texts.proofs.scheme_rule.Statement.{statement}
 use Rattle.texts.proofs.scheme_rule.Tie as tie
-
-starts-lower-requires : tie.Need-starts-lower-requires
-starts-lower-requires c κs = search needs
-
-scheme-bytes-requires : tie.Need-scheme-bytes-requires
-scheme-bytes-requires c κs = search needs
-
-known-name-requires : tie.Need-known-name-requires
-known-name-requires c κs = search needs
 
 returns : tie.Need-returns
 unfolding schemeRule knownName
 returns c =
     let i = c .before in
     simp (sym (i .before .before .before .starts-lower .ensures) ∙ i .before .before .if1 .taken, sym (i .before .scheme-bytes .ensures) ∙ i .if2 .taken)
-    (ap not (c .known-name .ensures) ∙ not-any _ _)
+    (ap not (c .is-name .ensures) ∙ not-any _ _)
 
 returns-2 : tie.Need-returns-2
 unfolding schemeRule
@@ -36,9 +27,9 @@ pub scheme-rule-spec : {M : Type 1} → statement M
 scheme-rule-spec =
     tie.close
     (tie.spec
-    starts-lower-requires
-    scheme-bytes-requires
-    known-name-requires
+    (λ c κs. search needs)
+    (λ c κs. search needs)
+    (λ c κs. search needs)
     returns
     returns-2
     returns-3)

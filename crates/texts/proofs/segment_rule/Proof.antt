@@ -5,21 +5,9 @@ use borrow.Author.Needs.{needs}
 use Rattle.texts.proofs.segment_rule.Statement.{statement}
 use Rattle.texts.proofs.segment_rule.Tie as tie
 
-slice-aggregate-same-at : tie.Need-slice-aggregate-same-at
-slice-aggregate-same-at c = search needs
-
-same-at-requires : tie.Need-same-at-requires
-same-at-requires c κs = search needs
-
 returns : tie.Need-returns
 unfolding segmentRule
 returns c = simp (sym (c .before .same-at .ensures) ∙ c .if1 .taken)
-
-slice-aggregate-same-at-2 : tie.Need-slice-aggregate-same-at-2
-slice-aggregate-same-at-2 c = search needs
-
-same-at-requires-2 : tie.Need-same-at-requires-2
-same-at-requires-2 c κs = search needs
 
 returns-2 : tie.Need-returns-2
 unfolding segmentRule
@@ -29,9 +17,9 @@ pub segment-rule-spec : {M : Type 1} → statement M
 segment-rule-spec =
     tie.close
     (tie.spec
-    slice-aggregate-same-at
-    same-at-requires
+    (λ c. search needs)
+    (λ c κs. search needs)
     returns
-    slice-aggregate-same-at-2
-    same-at-requires-2
+    (λ c. search needs)
+    (λ c κs. search needs)
     returns-2)

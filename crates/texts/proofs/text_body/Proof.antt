@@ -3,14 +3,11 @@ use native.Mathlib.Omega.{arith}
 use mathlib.Core.Path.{sym, _∙_}
 use denote.Ref.{now}
 use borrow.Author.Tests.{not-true, not-false}
-use Rattle.texts.specs.Code.{sortIs}
-use Rattle.texts.proofs.Cases.{text-limit, text-cut, text-wrong, text-against, text-kept}
+use Rattle.texts.specs.Answers.{sortIs}
+use Rattle.texts.proofs.RuleCases.{text-limit, text-cut, text-wrong, text-against, text-kept}
 use borrow.Author.Needs.{needs}
 use Rattle.texts.proofs.text_body.Statement.{statement}
 use Rattle.texts.proofs.text_body.Tie as tie
-
-length-fits-requires : tie.Need-length-fits-requires
-length-fits-requires c κs = search needs
 
 returns : tie.Need-returns
 returns c =
@@ -18,18 +15,12 @@ returns c =
     let a = c .before .before .before .args in
     text-limit (sortIs (a .sort)) (now (a .s)) at (record { kind = k; value = a .n; next = a .next }) (sym (c .before .length-fits .ensures) ∙ not-true _ (c .if1 .taken))
 
-sub-if2 : tie.Need-sub-if2
-sub-if2 c = search needs
-
 returns-2 : tie.Need-returns-2
 returns-2 c =
     λ k at.
     let f = c .before in
     let a = f .before .before .before .args in
     text-cut (sortIs (a .sort)) (now (a .s)) at (record { kind = k; value = a .n; next = a .next }) (sym (f .before .length-fits .ensures) ∙ not-false _ (f .if1 .left)) (omega arith)
-
-valid-requires : tie.Need-valid-requires
-valid-requires c κs = search needs
 
 returns-3 : tie.Need-returns-3
 returns-3 c =
@@ -39,9 +30,6 @@ returns-3 c =
     text-wrong (sortIs (a .sort)) (now (a .s)) at (record { kind = k; value = a .n; next = a .next }) (sym (f .before .length-fits .ensures) ∙ not-false _ (f .if1 .left)) (omega arith)
     (sym (c .before .valid .ensures) ∙ not-true _ (c .if3 .taken))
 
-keeps-rule-requires : tie.Need-keeps-rule-requires
-keeps-rule-requires c κs = search needs
-
 returns-4 : tie.Need-returns-4
 returns-4 c =
     λ k at.
@@ -50,9 +38,6 @@ returns-4 c =
     let a = f .before .before .before .args in
     text-against (sortIs (a .sort)) (now (a .s)) at (record { kind = k; value = a .n; next = a .next }) (sym (f .before .length-fits .ensures) ∙ not-false _ (f .if1 .left)) (omega arith)
     (sym (u .before .valid .ensures) ∙ not-false _ (u .if3 .left)) (sym (c .before .keeps-rule .ensures) ∙ not-true _ (c .if4 .taken))
-
-add-t9 : tie.Need-add-t9
-add-t9 c = search needs
 
 returns-5 : tie.Need-returns-5
 returns-5 c =
@@ -67,13 +52,13 @@ pub text-body-spec : {M : Type 1} → statement M
 text-body-spec =
     tie.close
     (tie.spec
-    length-fits-requires
+    (λ c κs. search needs)
     returns
-    sub-if2
+    (λ c. search needs)
     returns-2
-    valid-requires
+    (λ c κs. search needs)
     returns-3
-    keeps-rule-requires
+    (λ c κs. search needs)
     returns-4
-    add-t9
+    (λ c. search needs)
     returns-5)

@@ -6,8 +6,8 @@ use denote.Ref.{now}
 use lib.Dec.{leb}
 use lib.ListN.{length}
 use borrow.Author.Tests.{le-leb}
-use Rattle.reader.specs.Code.{foundOf}
-use Rattle.uri.specs.Texts.{textAt}
+use Rattle.reader.specs.Answers.{foundOf}
+use Rattle.uri.specs.Printed.{textAt}
 use Rattle.uri.proofs.has_room.Statement.{statement}
 use Rattle.uri.proofs.has_room.Tie as tie
 

@@ -3,23 +3,11 @@ use native.Mathlib.Omega.{arith}
 use mathlib.Core.Path.{ap}
 use denote.Ref.{now}
 use lib.ListN.{length}
-use Rattle.reader.specs.Code.{openingOf}
-use Rattle.uri.proofs.Written.{origin-discard, origin-all, full-prints, origin-sum}
+use Rattle.reader.specs.Answers.{openingOf}
+use Rattle.uri.proofs.PrintedParts.{origin-discard, origin-all, full-prints, origin-sum}
 use borrow.Author.Needs.{needs}
 use Rattle.uri.proofs.origin_length.Statement.{statement}
 use Rattle.uri.proofs.origin_length.Tie as tie
-
-enum-told : tie.Need-enum-told
-enum-told c = search needs
-
-enum-told-2 : tie.Need-enum-told-2
-enum-told-2 c = search needs
-
-enum-known-opening : tie.Need-enum-known-opening
-enum-known-opening c = search needs
-
-scheme-length-requires : tie.Need-scheme-length-requires
-scheme-length-requires c κs = search needs
 
 add-result : tie.Need-add-result
 add-result c =
@@ -73,10 +61,10 @@ pub origin-length-spec : {M : Type 1} → statement M
 origin-length-spec =
     tie.close
     (tie.spec
-    enum-told
-    enum-told-2
-    enum-known-opening
-    scheme-length-requires
+    (λ c. search needs)
+    (λ c. search needs)
+    (λ c. search needs)
+    (λ c κs. search needs)
     add-result
     host-length-requires
     add-result-2

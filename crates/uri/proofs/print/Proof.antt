@@ -2,9 +2,9 @@
 use mathlib.Core.Path.{refl, sym, _∙_}
 use denote.Ref.{now}
 use borrow.Author.Tests.{leb-true, leb-false}
-use Rattle.outcomes.proofs.Laws.{right-full, right-done}
-use Rattle.reader.specs.Code.{foundOf}
-use Rattle.uri.specs.Texts.{textAt}
+use Rattle.outcomes.proofs.Answers.{right-full, right-done}
+use Rattle.reader.specs.Answers.{foundOf}
+use Rattle.uri.specs.Printed.{textAt}
 use borrow.Author.Needs.{needs}
 use Rattle.uri.proofs.print.Statement.{statement}
 use Rattle.uri.proofs.print.Tie as tie
@@ -15,14 +15,8 @@ has-room-requires c κs = c .before .before .pre
 put-text-requires : tie.Need-put-text-requires
 put-text-requires c κs = (c .before .before .before .before .before .pre, leb-true _ _ (sym (c .before .before .has-room .ensures) ∙ c .before .if1 .taken))
 
-same-length : tie.Need-same-length
-same-length c = search needs
-
 returns : tie.Need-returns
 returns c = let u = right-done (textAt (now (c .before .before .before .before .before .before .before .before .args .s)) (foundOf (c .before .before .before .before .before .before .before .before .args .found))) refl (leb-true _ _ (sym (c .before .before .before .before .before .has-room .ensures) ∙ c .before .before .before .before .if1 .taken)) (c .before .before .put-text .ensures) in (u .answered, u .holds)
-
-refused-requires : tie.Need-refused-requires
-refused-requires c κs = search needs
 
 returns-2 : tie.Need-returns-2
 returns-2 c = let u = right-full {room = now (c .before .before .before .before .before .args .room)} (textAt (now (c .before .before .before .before .before .args .s)) (foundOf (c .before .before .before .before .before .args .found))) refl (leb-false _ _ (sym (c .before .before .has-room .ensures) ∙ c .before .if1 .left)) in (c .refused .ensures ∙ u .answered, u .holds)
@@ -33,7 +27,7 @@ print-spec =
     (tie.spec
     has-room-requires
     put-text-requires
-    same-length
+    (λ c. search needs)
     returns
-    refused-requires
+    (λ c κs. search needs)
     returns-2)

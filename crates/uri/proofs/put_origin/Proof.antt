@@ -2,21 +2,12 @@
 use native.Mathlib.Omega.{arith}
 use mathlib.Core.Path.{ap}
 use denote.Ref.{now}
-use Rattle.put.proofs.Laws.{wrote-then, wrote-as, wrote-none, wrote-length}
-use Rattle.reader.specs.Code.{openingOf}
-use Rattle.uri.proofs.Written.{origin-discard, origin-all, origin-full, full-prints, origin-sum}
+use Rattle.put.proofs.Wrote.{wrote-then, wrote-as, wrote-none, wrote-length}
+use Rattle.reader.specs.Answers.{openingOf}
+use Rattle.uri.proofs.PrintedParts.{origin-discard, origin-all, origin-full, full-prints, origin-sum}
 use borrow.Author.Needs.{needs}
 use Rattle.uri.proofs.put_origin.Statement.{statement}
 use Rattle.uri.proofs.put_origin.Tie as tie
-
-enum-told : tie.Need-enum-told
-enum-told c = search needs
-
-enum-told-2 : tie.Need-enum-told-2
-enum-told-2 c = search needs
-
-enum-known-opening : tie.Need-enum-known-opening
-enum-known-opening c = search needs
 
 put-scheme-requires : tie.Need-put-scheme-requires
 put-scheme-requires c κs =
@@ -24,9 +15,6 @@ put-scheme-requires c κs =
     let bs = now (s .args .s) in
     let e = ap openingOf (c .before .before .opening .given .1) in
     (full-prints bs e (s .pre .0) .0, omega (arith, s .pre .1, origin-sum bs e))
-
-slice-aggregate-put-bytes : tie.Need-slice-aggregate-put-bytes
-slice-aggregate-put-bytes c = search needs
 
 put-bytes-requires : tie.Need-put-bytes-requires
 put-bytes-requires c κs = omega (arith, c .before .before .before .before .before .before .before .before .before .before .before .pre .1, origin-sum (now (c .before .before .before .before .before .before .before .before .before .before .before .args .s)) (ap openingOf (c .before .before .before .before .before .before .before .opening .given .1)), c .before .before .before .before .put-scheme .ensures .place, wrote-length (c .before .before .before .before .put-scheme .ensures))
@@ -51,9 +39,6 @@ returns c = wrote-as (origin-discard _ (ap openingOf (c .enum-told .given .1))) 
 returns-2 : tie.Need-returns-2
 returns-2 c = wrote-as (origin-all _ (ap openingOf (c .enum-told2 .given .1))) wrote-none
 
-same-length : tie.Need-same-length
-same-length c = search needs
-
 returns-3 : tie.Need-returns-3
 returns-3 c = wrote-as (origin-full _ (ap openingOf (c .before .before .before .before .before .before .before .before .before .before .before .before .before .before .before .before .before .before .opening .given .1))) (wrote-then (c .before .before .before .before .before .before .before .before .before .before .before .before .before .before .before .put-scheme .ensures) (wrote-then (c .before .before .before .before .before .before .before .before .before .before .put-bytes .ensures) (wrote-then (c .before .before .before .before .before .before .put-host .ensures) (c .before .before .put-port .ensures))))
 
@@ -61,15 +46,15 @@ pub put-origin-spec : {M : Type 1} → statement M
 put-origin-spec =
     tie.close
     (tie.spec
-    enum-told
-    enum-told-2
-    enum-known-opening
+    (λ c. search needs)
+    (λ c. search needs)
+    (λ c. search needs)
     put-scheme-requires
-    slice-aggregate-put-bytes
+    (λ c. search needs)
     put-bytes-requires
     put-host-requires
     put-port-requires
     returns
     returns-2
-    same-length
+    (λ c. search needs)
     returns-3)

@@ -1,10 +1,10 @@
 -- `uri::put_text` meets its contract.
 use native.Mathlib.Omega.{arith}
 use denote.Ref.{now}
-use Rattle.put.proofs.Laws.{wrote-then, wrote-length}
-use Rattle.reader.specs.Code.{foundOf}
-use Rattle.uri.proofs.Written.{text-sum}
-use Rattle.uri.specs.Texts.{textPieces}
+use Rattle.put.proofs.Wrote.{wrote-then, wrote-length}
+use Rattle.reader.specs.Answers.{foundOf}
+use Rattle.uri.proofs.PrintedParts.{text-sum}
+use Rattle.uri.specs.Printed.{textPieces}
 use borrow.Author.Needs.{needs}
 use Rattle.uri.proofs.put_text.Statement.{statement}
 use Rattle.uri.proofs.put_text.Tie as tie
@@ -21,9 +21,6 @@ put-query-requires c κs = (c .before .before .before .before .before .before .b
 put-fragment-requires : tie.Need-put-fragment-requires
 put-fragment-requires c κs = (c .before .before .before .before .before .before .before .before .before .before .before .before .before .before .before .pre .0 .fragment, omega (arith, c .before .before .before .before .before .before .before .before .before .before .before .before .before .before .before .pre .1, text-sum (now (c .before .before .before .before .before .before .before .before .before .before .before .before .before .before .before .args .s)) (foundOf (c .before .before .before .before .before .before .before .before .before .before .before .before .before .before .before .args .found)), c .before .before .before .before .before .before .before .before .before .before .before .put-origin .ensures .place, wrote-length (c .before .before .before .before .before .before .before .before .before .before .before .put-origin .ensures), c .before .before .before .before .before .before .before .put-path .ensures .place, wrote-length (c .before .before .before .before .before .before .before .put-path .ensures), c .before .before .before .put-query .ensures .place, wrote-length (c .before .before .before .put-query .ensures)))
 
-same-length : tie.Need-same-length
-same-length c = search needs
-
 returns : tie.Need-returns
 unfolding textPieces
 returns c = wrote-then (c .before .before .before .before .before .before .before .before .before .before .before .before .before .before .put-origin .ensures) (wrote-then (c .before .before .before .before .before .before .before .before .before .before .put-path .ensures) (wrote-then (c .before .before .before .before .before .before .put-query .ensures) (c .before .before .put-fragment .ensures)))
@@ -36,5 +33,5 @@ put-text-spec =
     put-path-requires
     put-query-requires
     put-fragment-requires
-    same-length
+    (λ c. search needs)
     returns)

@@ -1,8 +1,8 @@
 -- `uri::text_length` meets its contract.
 use native.Mathlib.Omega.{arith}
 use denote.Ref.{now}
-use Rattle.reader.specs.Code.{foundOf}
-use Rattle.uri.proofs.Written.{text-sum}
+use Rattle.reader.specs.Answers.{foundOf}
+use Rattle.uri.proofs.PrintedParts.{text-sum}
 use Rattle.uri.proofs.text_length.Statement.{statement}
 use Rattle.uri.proofs.text_length.Tie as tie
 

@@ -3,29 +3,14 @@ use native.Mathlib.Omega.{arith}
 use mathlib.Core.Path.{sym, ap, _∙_}
 use denote.Ref.{now}
 use lib.ListN.{length}
-use Rattle.outcomes.proofs.Laws.{right-refused}
-use Rattle.reader.specs.Code.{answerIs}
+use Rattle.outcomes.proofs.Answers.{right-refused}
+use Rattle.reader.specs.Answers.{answerIs}
 use Rattle.rules.proofs.Tools.{octets-of}
 use Rattle.rules.specs.Calls.{Ruling, outcome, after}
-use Rattle.uri.proofs.Texts.{prints, text-refused, text-relative, text-written}
+use Rattle.uri.proofs.Printed.{prints, text-refused, text-relative, text-written}
 use borrow.Author.Needs.{needs}
 use Rattle.uri.proofs.uri_text.Statement.{statement}
 use Rattle.uri.proofs.uri_text.Tie as tie
-
-read-requires : tie.Need-read-requires
-read-requires c κs = search needs
-
-enum-known-k : tie.Need-enum-known-k
-enum-known-k c = search needs
-
-refused-requires : tie.Need-refused-requires
-refused-requires c κs = search needs
-
-enum-known-found : tie.Need-enum-known-found
-enum-known-found c = search needs
-
-is-absolute-requires : tie.Need-is-absolute-requires
-is-absolute-requires c κs = search needs
 
 print-requires : tie.Need-print-requires
 print-requires c κs =
@@ -34,16 +19,10 @@ print-requires c κs =
     let e = sym (c .before .before .before .before .before .before .read .ensures) ∙ ap answerIs (c .before .before .before .before .found .given .1) in
     prints bs _ h e (sym (c .before .before .is-absolute .ensures) ∙ c .before .if1 .taken)
 
-refused-requires-2 : tie.Need-refused-requires-2
-refused-requires-2 c κs = search needs
-
 returns : tie.Need-returns
 returns c =
     let u = right-refused _ (text-refused (now (c .before .before .before .before .before .before .before .args .s)) _ _ (sym (c .before .before .before .before .read .ensures) ∙ ap answerIs (c .before .before .k .given .1))) in
     (c .refused .ensures ∙ u .answered, u .holds)
-
-same-length : tie.Need-same-length
-same-length c = search needs
 
 returns-2 : tie.Need-returns-2
 returns-2 c =
@@ -61,14 +40,14 @@ pub uri-text-spec : {M : Type 1} → statement M
 uri-text-spec =
     tie.close
     (tie.spec
-    read-requires
-    enum-known-k
-    refused-requires
-    enum-known-found
-    is-absolute-requires
+    (λ c κs. search needs)
+    (λ c. search needs)
+    (λ c κs. search needs)
+    (λ c. search needs)
+    (λ c κs. search needs)
     print-requires
-    refused-requires-2
+    (λ c κs. search needs)
     returns
-    same-length
+    (λ c. search needs)
     returns-2
     returns-3)

@@ -3,20 +3,11 @@ use native.Mathlib.Omega.{arith}
 use mathlib.Core.Path.{ap}
 use denote.Ref.{now}
 use lib.ListN.{length}
-use Rattle.reader.specs.Code.{slotOf}
+use Rattle.reader.specs.Answers.{slotOf}
 use Rattle.uri_parts.proofs.Pieces.{fragment-unset, fragment-set}
 use borrow.Author.Needs.{needs}
 use Rattle.uri_parts.proofs.fragment_length.Statement.{statement}
 use Rattle.uri_parts.proofs.fragment_length.Tie as tie
-
-enum-told : tie.Need-enum-told
-enum-told c = search needs
-
-enum-known-fragment : tie.Need-enum-known-fragment
-enum-known-fragment c = search needs
-
-bare-bits-requires : tie.Need-bare-bits-requires
-bare-bits-requires c κs = search needs
 
 escaped-length-requires : tie.Need-escaped-length-requires
 escaped-length-requires c κs = let h = rw (ap slotOf (c .before .before .before .fragment .given .1)) at (c .before .before .before .before .before .before .pre .1 .0) in (c .before .bare-bits .ensures, (h, omega (arith, h, c .before .before .before .before .before .before .pre .0)))
@@ -34,9 +25,9 @@ pub fragment-length-spec : {M : Type 1} → statement M
 fragment-length-spec =
     tie.close
     (tie.spec
-    enum-told
-    enum-known-fragment
-    bare-bits-requires
+    (λ c. search needs)
+    (λ c. search needs)
+    (λ c κs. search needs)
     escaped-length-requires
     add-result
     returns

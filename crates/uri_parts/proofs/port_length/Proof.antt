@@ -2,23 +2,14 @@
 use native.Mathlib.Omega.{arith}
 use mathlib.Core.Path.{ap}
 use lib.ListN.{length}
-use Rattle.reader.specs.Code.{portOf}
+use Rattle.reader.specs.Answers.{portOf}
 use Rattle.uri_parts.proofs.Pieces.{port-none, port-some}
 use borrow.Author.Needs.{needs}
 use Rattle.uri_parts.proofs.port_length.Statement.{statement}
 use Rattle.uri_parts.proofs.port_length.Tie as tie
 
-enum-told : tie.Need-enum-told
-enum-told c = search needs
-
-enum-known-port : tie.Need-enum-known-port
-enum-known-port c = search needs
-
 cast-decimal-length : tie.Need-cast-decimal-length
 cast-decimal-length c = omega (arith, rw (ap portOf (c .before .port .given .1)) at (c .before .before .before .pre .0))
-
-decimal-length-requires : tie.Need-decimal-length-requires
-decimal-length-requires c κs = search needs
 
 add-result : tie.Need-add-result
 add-result c = omega (arith, c .before .before .before .before .pre .1, c .decimal-length .ensures, ap length (port-some (ap portOf (c .before .before .port .given .1))))
@@ -33,10 +24,10 @@ pub port-length-spec : {M : Type 1} → statement M
 port-length-spec =
     tie.close
     (tie.spec
-    enum-told
-    enum-known-port
+    (λ c. search needs)
+    (λ c. search needs)
     cast-decimal-length
-    decimal-length-requires
+    (λ c κs. search needs)
     add-result
     returns
     returns-2)

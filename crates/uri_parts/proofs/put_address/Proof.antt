@@ -5,7 +5,7 @@ use mathlib.Core.List.{[], _∷_}
 use mathlib.Core.Path.{_≡_, ap}
 use denote.Ref.{now}
 use lib.ListN.{length, length-append}
-use Rattle.put.proofs.Laws.{wrote-then, wrote-as, wrote-length}
+use Rattle.put.proofs.Wrote.{wrote-then, wrote-as, wrote-length}
 use Rattle.rules.specs.Address.{ipv6Text, rightBracket, addressText}
 use Rattle.rules.specs.Bytes.{part}
 use Rattle.uri_parts.proofs.Pieces.{ipv4-piece, ipv6-piece, sixteen}
@@ -22,9 +22,6 @@ whole s k =
 put-ipv4-requires : tie.Need-put-ipv4-requires
 put-ipv4-requires c κs = (omega (arith, c .before .before .before .before .pre .0 .0, c .before .if1 .taken), omega (arith, c .before .before .before .before .pre .1, ap length (ipv4-piece (now (c .before .before .before .before .args .s)) (c .before .before .before .before .args .from) (c .before .before .before .before .args .n) (c .before .if1 .taken) (c .before .before .before .before .pre .0 .0))))
 
-same-length : tie.Need-same-length
-same-length c = search needs
-
 returns : tie.Need-returns
 returns c = wrote-as (ipv4-piece _ _ _ (c .before .before .before .before .if1 .taken) (c .before .before .before .before .before .before .before .pre .0 .0)) (c .before .before .put-ipv4 .ensures)
 
@@ -37,9 +34,6 @@ put-ipv6-requires c κs = (omega (arith, c .before .before .before .before .befo
 put-byte-requires-2 : tie.Need-put-byte-requires-2
 put-byte-requires-2 c κs = omega (arith, c .before .before .before .before .before .before .before .before .before .before .before .before .pre .1, whole (c .before .before .before .before .before .before .before .before .before .before .before .before) (c .before .before .before .before .before .before .before .before .before .if1 .left), c .before .before .before .before .before .before .before .put-byte .ensures .place, wrote-length (c .before .before .before .before .before .before .before .put-byte .ensures), c .before .before .before .put-ipv6 .ensures .place, wrote-length (c .before .before .before .put-ipv6 .ensures))
 
-same-length-2 : tie.Need-same-length-2
-same-length-2 c = search needs
-
 returns-2 : tie.Need-returns-2
 returns-2 c = wrote-as (ipv6-piece _ _ _ (c .before .before .before .before .before .before .before .before .before .before .before .before .if1 .left) (c .before .before .before .before .before .before .before .before .before .before .before .before .before .before .before .pre .0 .1) (c .before .before .before .before .before .before .before .before .before .before .before .before .before .before .before .pre .0 .0)) (wrote-then (c .before .before .before .before .before .before .before .before .before .before .put-byte .ensures) (wrote-then (c .before .before .before .before .before .before .put-ipv6 .ensures) (c .before .before .put-byte2 .ensures)))
 
@@ -48,10 +42,10 @@ put-address-spec =
     tie.close
     (tie.spec
     put-ipv4-requires
-    same-length
+    (λ c. search needs)
     returns
     put-byte-requires
     put-ipv6-requires
     put-byte-requires-2
-    same-length-2
+    (λ c. search needs)
     returns-2)

@@ -3,24 +3,12 @@ use native.Mathlib.Omega.{arith}
 use mathlib.Core.Path.{ap}
 use denote.Ref.{now}
 use lib.ListN.{length}
-use Rattle.put.proofs.Laws.{wrote-then, wrote-as, wrote-none, wrote-length}
-use Rattle.reader.specs.Code.{slotOf}
+use Rattle.put.proofs.Wrote.{wrote-then, wrote-as, wrote-none, wrote-length}
+use Rattle.reader.specs.Answers.{slotOf}
 use Rattle.uri_parts.proofs.Pieces.{fragment-unset, fragment-set}
 use borrow.Author.Needs.{needs}
 use Rattle.uri_parts.proofs.put_fragment.Statement.{statement}
 use Rattle.uri_parts.proofs.put_fragment.Tie as tie
-
-enum-told : tie.Need-enum-told
-enum-told c = search needs
-
-enum-known-fragment : tie.Need-enum-known-fragment
-enum-known-fragment c = search needs
-
-bare-bits-requires : tie.Need-bare-bits-requires
-bare-bits-requires c κs = search needs
-
-upper-hex-digits-requires : tie.Need-upper-hex-digits-requires
-upper-hex-digits-requires c κs = search needs
 
 put-byte-requires : tie.Need-put-byte-requires
 put-byte-requires c κs = omega (arith, c .before .before .before .before .before .before .before .before .pre .1, ap length (fragment-set (now (c .before .before .before .before .before .before .before .before .args .s)) (ap slotOf (c .before .before .before .before .fragment .given .1))))
@@ -33,9 +21,6 @@ put-escaped-requires c κs =
 returns : tie.Need-returns
 returns c = wrote-as (fragment-unset _ (ap slotOf (c .enum-told .given .1))) wrote-none
 
-same-length : tie.Need-same-length
-same-length c = search needs
-
 returns-2 : tie.Need-returns-2
 returns-2 c = wrote-as (fragment-set _ (ap slotOf (c .before .before .before .before .before .before .before .before .before .before .before .before .before .fragment .given .1))) (wrote-then (c .before .before .before .before .before .before .before .before .put-byte .ensures) (c .before .before .put-escaped .ensures))
 
@@ -43,12 +28,12 @@ pub put-fragment-spec : {M : Type 1} → statement M
 put-fragment-spec =
     tie.close
     (tie.spec
-    enum-told
-    enum-known-fragment
-    bare-bits-requires
-    upper-hex-digits-requires
+    (λ c. search needs)
+    (λ c. search needs)
+    (λ c κs. search needs)
+    (λ c κs. search needs)
     put-byte-requires
     put-escaped-requires
     returns
-    same-length
+    (λ c. search needs)
     returns-2)

@@ -2,18 +2,12 @@
 use native.Mathlib.Omega.{arith}
 use mathlib.Core.Path.{ap}
 use lib.ListN.{length}
-use Rattle.put.proofs.Laws.{wrote-then, wrote-as, wrote-none, wrote-length}
-use Rattle.reader.specs.Code.{portOf}
+use Rattle.put.proofs.Wrote.{wrote-then, wrote-as, wrote-none, wrote-length}
+use Rattle.reader.specs.Answers.{portOf}
 use Rattle.uri_parts.proofs.Pieces.{port-none, port-some}
 use borrow.Author.Needs.{needs}
 use Rattle.uri_parts.proofs.put_port.Statement.{statement}
 use Rattle.uri_parts.proofs.put_port.Tie as tie
-
-enum-told : tie.Need-enum-told
-enum-told c = search needs
-
-enum-known-port : tie.Need-enum-known-port
-enum-known-port c = search needs
 
 put-byte-requires : tie.Need-put-byte-requires
 put-byte-requires c κs = omega (arith, c .before .before .before .before .before .pre .1, ap length (port-some (ap portOf (c .before .before .port .given .1))))
@@ -27,9 +21,6 @@ put-decimal-requires c κs = omega (arith, c .before .before .before .before .be
 returns : tie.Need-returns
 returns c = wrote-as (port-none (ap portOf (c .enum-told .given .1))) wrote-none
 
-same-length : tie.Need-same-length
-same-length c = search needs
-
 returns-2 : tie.Need-returns-2
 returns-2 c = wrote-as (port-some (ap portOf (c .before .before .before .before .before .before .before .before .before .port .given .1))) (wrote-then (c .before .before .before .before .before .before .put-byte .ensures) (c .before .before .put-decimal .ensures))
 
@@ -37,11 +28,11 @@ pub put-port-spec : {M : Type 1} → statement M
 put-port-spec =
     tie.close
     (tie.spec
-    enum-told
-    enum-known-port
+    (λ c. search needs)
+    (λ c. search needs)
     put-byte-requires
     cast-put-decimal
     put-decimal-requires
     returns
-    same-length
+    (λ c. search needs)
     returns-2)

@@ -2,34 +2,28 @@
 use mathlib.Core.Path.{ap, _∙_}
 use denote.Ref.{now}
 use lib.ListN.{length}
-use Rattle.reader.specs.Code.{slotOf}
+use Rattle.reader.specs.Answers.{slotOf}
 use Rattle.rules.specs.Bytes.{question, ampersand}
 use Rattle.uri_parts.proofs.Pieces.{query-unset, query-set}
 use borrow.Author.Needs.{needs}
 use Rattle.uri_parts.proofs.query_length.Statement.{statement}
 use Rattle.uri_parts.proofs.query_length.Tie as tie
 
-enum-told : tie.Need-enum-told
-enum-told c = search needs
-
-enum-known-query : tie.Need-enum-known-query
-enum-known-query c = search needs
-
-run-length-requires : tie.Need-run-length-requires
-run-length-requires c κs = (rw (ap slotOf (c .before .query .given .1)) at (c .before .before .before .before .pre .1), c .before .before .before .before .pre .0)
+row-length-requires : tie.Need-row-length-requires
+row-length-requires c κs = (rw (ap slotOf (c .before .query .given .1)) at (c .before .before .before .before .pre .1), c .before .before .before .before .pre .0)
 
 returns : tie.Need-returns
 returns c = ap length (query-unset (now (c .before .before .before .args .s)) (ap slotOf (c .enum-told .given .1)))
 
 returns-2 : tie.Need-returns-2
-returns-2 c = c .run-length .ensures question ampersand ∙ ap length (query-set _ (ap slotOf (c .before .before .query .given .1)))
+returns-2 c = c .row-length .ensures question ampersand ∙ ap length (query-set _ (ap slotOf (c .before .before .query .given .1)))
 
 pub query-length-spec : {M : Type 1} → statement M
 query-length-spec =
     tie.close
     (tie.spec
-    enum-told
-    enum-known-query
-    run-length-requires
+    (λ c. search needs)
+    (λ c. search needs)
+    row-length-requires
     returns
     returns-2)

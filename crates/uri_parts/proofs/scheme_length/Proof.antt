@@ -1,24 +1,12 @@
 -- `uri_parts::scheme_length` meets its contract.
 use mathlib.Core.Path.{sym, ap, _∙_}
 use lib.ListN.{length}
-use Rattle.reader.specs.Code.{schemeOf}
+use Rattle.reader.specs.Answers.{schemeOf}
 use Rattle.rules.proofs.Tools.{length-part}
 use Rattle.uri_parts.proofs.Pieces.{scheme-none, scheme-number, scheme-name}
 use borrow.Author.Needs.{needs}
 use Rattle.uri_parts.proofs.scheme_length.Statement.{statement}
 use Rattle.uri_parts.proofs.scheme_length.Tie as tie
-
-enum-told : tie.Need-enum-told
-enum-told c = search needs
-
-enum-known-scheme : tie.Need-enum-known-scheme
-enum-known-scheme c = search needs
-
-name-length-requires : tie.Need-name-length-requires
-name-length-requires c κs = search needs
-
-enum-known-scheme-2 : tie.Need-enum-known-scheme-2
-enum-known-scheme-2 c = search needs
 
 returns : tie.Need-returns
 returns c = λ bs h. ap length (scheme-none bs (ap schemeOf (c .enum-told .given .1)))
@@ -33,10 +21,10 @@ pub scheme-length-spec : {M : Type 1} → statement M
 scheme-length-spec =
     tie.close
     (tie.spec
-    enum-told
-    enum-known-scheme
-    name-length-requires
-    enum-known-scheme-2
+    (λ c. search needs)
+    (λ c. search needs)
+    (λ c κs. search needs)
+    (λ c. search needs)
     returns
     returns-2
     returns-3)

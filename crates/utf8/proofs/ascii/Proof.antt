@@ -8,8 +8,8 @@ use denote.Ref.{now}
 use borrow.Author.Needs.{needs}
 use native.Mathlib.Omega.{arith}
 use Rattle.rules.specs.Bytes.{part, all}
-use Rattle.utf8.specs.Code.{isAscii}
-use Rattle.utf8.proofs.Walk.{ascii-turn, ascii-end}
+use Rattle.utf8.specs.Answers.{isAscii}
+use Rattle.utf8.proofs.Utf8Walk.{ascii-turn, ascii-end}
 use Rattle.utf8.proofs.ascii.Statement.{statement}
 use Rattle.utf8.proofs.ascii.Tie as tie
 
@@ -25,21 +25,6 @@ loop-holds c =
     let i : a .from ≡ a .from + 0 = omega arith in
     let k : a .n ≡ a .n - 0 = omega arith in
     (search needs, search needs, ap₂ (λ (i k : ℕ). all isAscii (part (now (a .s)) i k)) i k)
-
-add-larger : tie.Need-add-larger Inv-loop μ-loop
-add-larger c = search needs
-
-shared-slice-read-larger : tie.Need-shared-slice-read-larger Inv-loop μ-loop
-shared-slice-read-larger c = search needs
-
-larger-requires : tie.Need-larger-requires Inv-loop μ-loop
-larger-requires c κs = search needs
-
-add-k : tie.Need-add-k Inv-loop μ-loop
-add-k c = search needs
-
-loop-less : tie.Need-loop-less Inv-loop μ-loop
-loop-less c = search needs
 
 loop-again : tie.Need-loop-again Inv-loop μ-loop
 loop-again c =
@@ -65,10 +50,10 @@ ascii-spec =
     Inv-loop
     μ-loop
     loop-holds
-    add-larger
-    shared-slice-read-larger
-    larger-requires
-    add-k
-    loop-less
+    (λ c. search needs)
+    (λ c. search needs)
+    (λ c κs. search needs)
+    (λ c. search needs)
+    (λ c. search needs)
     loop-again
     returns)

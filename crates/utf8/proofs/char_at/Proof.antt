@@ -2,42 +2,12 @@
 use mathlib.Core.Path.{sym, ap, _∙_}
 use denote.Ref.{now}
 use native.Mathlib.Omega.{arith}
-use Rattle.utf8.specs.Code.{leadIs}
+use Rattle.utf8.specs.Answers.{leadIs}
 use Rattle.utf8.proofs.Leads.{three-follow}
-use Rattle.utf8.proofs.Walk.{lead-wrong, no-character, one-byte, no-end, a-character}
+use Rattle.utf8.proofs.Utf8Walk.{lead-wrong, no-character, one-byte, no-end, a-character}
 use borrow.Author.Needs.{needs}
 use Rattle.utf8.proofs.char_at.Statement.{statement}
 use Rattle.utf8.proofs.char_at.Tie as tie
-
-shared-slice-read-lead-of : tie.Need-shared-slice-read-lead-of
-shared-slice-read-lead-of c = search needs
-
-lead-of-requires : tie.Need-lead-of-requires
-lead-of-requires c κs = search needs
-
-enum-told : tie.Need-enum-told
-enum-told c = search needs
-
-enum-known-n : tie.Need-enum-known-n
-enum-known-n c = search needs
-
-add-follows : tie.Need-add-follows
-add-follows c = search needs
-
-follows-requires : tie.Need-follows-requires
-follows-requires c κs = search needs
-
-add-follows-2 : tie.Need-add-follows-2
-add-follows-2 c = search needs
-
-follows-requires-2 : tie.Need-follows-requires-2
-follows-requires-2 c κs = search needs
-
-add-follows-3 : tie.Need-add-follows-3
-add-follows-3 c = search needs
-
-follows-requires-3 : tie.Need-follows-requires-3
-follows-requires-3 c κs = search needs
 
 returns : tie.Need-returns
 returns c =
@@ -91,16 +61,16 @@ pub char-at-spec : {M : Type 1} → statement M
 char-at-spec =
     tie.close
     (tie.spec
-    shared-slice-read-lead-of
-    lead-of-requires
-    enum-told
-    enum-known-n
-    add-follows
-    follows-requires
-    add-follows-2
-    follows-requires-2
-    add-follows-3
-    follows-requires-3
+    (λ c. search needs)
+    (λ c κs. search needs)
+    (λ c. search needs)
+    (λ c. search needs)
+    (λ c. search needs)
+    (λ c κs. search needs)
+    (λ c. search needs)
+    (λ c κs. search needs)
+    (λ c. search needs)
+    (λ c κs. search needs)
     returns
     returns-2
     returns-3

@@ -7,7 +7,7 @@ use borrow.Author.Needs.{needs}
 use native.Mathlib.Omega.{arith}
 use Rattle.rules.specs.Bytes.{part}
 use Rattle.rules.specs.Utf8.{utf8From}
-use Rattle.utf8.proofs.Walk.{follow-turn, followed-cut, followed-stop, followed-all}
+use Rattle.utf8.proofs.Utf8Walk.{follow-turn, followed-cut, followed-stop, followed-all}
 use Rattle.utf8.proofs.follow_range.Statement.{statement}
 use Rattle.utf8.proofs.follow_range.Tie as tie
 
@@ -20,9 +20,6 @@ Inv-loop s from end n low high least₀ most₀ k₀ least most k =
 
 abbrev μ-loop : tie.MeasureT-loop
 μ-loop s from end n low high least₀ most₀ k₀ least most k = n - k
-
-sub-if1 : tie.Need-sub-if1 Inv-loop μ-loop
-sub-if1 c = search needs
 
 returns : tie.Need-returns Inv-loop μ-loop
 returns c =
@@ -39,21 +36,6 @@ loop-holds c =
       search needs,
       ap₂ (λ (k i : ℕ). utf8From k (a .low) (a .high) (part (now (a .s)) i (a .end - i))) k i,
     )
-
-add-inside : tie.Need-add-inside Inv-loop μ-loop
-add-inside c = search needs
-
-shared-slice-read-inside : tie.Need-shared-slice-read-inside Inv-loop μ-loop
-shared-slice-read-inside c = search needs
-
-inside-requires : tie.Need-inside-requires Inv-loop μ-loop
-inside-requires c κs = search needs
-
-add-k : tie.Need-add-k Inv-loop μ-loop
-add-k c = search needs
-
-loop-less : tie.Need-loop-less Inv-loop μ-loop
-loop-less c = search needs
 
 loop-again : tie.Need-loop-again Inv-loop μ-loop
 loop-again c =
@@ -86,14 +68,14 @@ follow-range-spec =
     (tie.spec
     Inv-loop
     μ-loop
-    sub-if1
+    (λ c. search needs)
     returns
     loop-holds
-    add-inside
-    shared-slice-read-inside
-    inside-requires
-    add-k
-    loop-less
+    (λ c. search needs)
+    (λ c. search needs)
+    (λ c κs. search needs)
+    (λ c. search needs)
+    (λ c. search needs)
     loop-again
     returns-2
     returns-3)

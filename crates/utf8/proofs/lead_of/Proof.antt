@@ -7,18 +7,6 @@ use borrow.Author.Needs.{needs}
 use Rattle.utf8.proofs.lead_of.Statement.{statement}
 use Rattle.utf8.proofs.lead_of.Tie as tie
 
-second-low-requires : tie.Need-second-low-requires
-second-low-requires c κs = search needs
-
-second-high-requires : tie.Need-second-high-requires
-second-high-requires c κs = search needs
-
-second-low-requires-2 : tie.Need-second-low-requires-2
-second-low-requires-2 c κs = search needs
-
-second-high-requires-2 : tie.Need-second-high-requires-2
-second-high-requires-2 c κs = search needs
-
 returns : tie.Need-returns
 returns c = lead-one _ (omega arith)
 
@@ -41,10 +29,10 @@ pub lead-of-spec : {M : Type 1} → statement M
 lead-of-spec =
     tie.close
     (tie.spec
-    second-low-requires
-    second-high-requires
-    second-low-requires-2
-    second-high-requires-2
+    (λ c κs. search needs)
+    (λ c κs. search needs)
+    (λ c κs. search needs)
+    (λ c κs. search needs)
     returns
     returns-2
     returns-3

@@ -1,6 +1,6 @@
 -- `utf8::second_high` meets its contract.
 use borrow.Author.Tests.{ne-eqb}
-use Rattle.utf8.specs.Code.{secondHigh}
+use Rattle.utf8.specs.Answers.{secondHigh}
 use Rattle.utf8.proofs.second_high.Statement.{statement}
 use Rattle.utf8.proofs.second_high.Tie as tie
 

@@ -1,6 +1,6 @@
 -- `utf8::second_low` meets its contract.
 use borrow.Author.Tests.{ne-eqb}
-use Rattle.utf8.specs.Code.{secondLow}
+use Rattle.utf8.specs.Answers.{secondLow}
 use Rattle.utf8.proofs.second_low.Statement.{statement}
 use Rattle.utf8.proofs.second_low.Tie as tie
 

@@ -4,8 +4,8 @@ use mathlib.Core.Path.{sym, _∙_}
 use lib.ListN.{length}
 use denote.Ref.{now}
 use native.Mathlib.Omega.{arith}
-use Rattle.utf8.specs.Code.{Passed}
-use Rattle.utf8.proofs.Walk.{passed-none, passed-ascii}
+use Rattle.utf8.specs.Answers.{Passed}
+use Rattle.utf8.proofs.Utf8Walk.{passed-none, passed-ascii}
 use borrow.Author.Needs.{needs}
 use Rattle.utf8.proofs.skip.Statement.{statement}
 use Rattle.utf8.proofs.skip.Tie as tie
@@ -20,18 +20,6 @@ loop-holds : tie.Need-loop-holds Inv-loop μ-loop
 loop-holds c =
     let a = c .before .args in
     (search needs, search needs, passed-none (now (a .s)) (a .from) (a .end) (omega arith))
-
-sub-loop : tie.Need-sub-loop Inv-loop μ-loop
-sub-loop c = search needs
-
-ascii-requires : tie.Need-ascii-requires Inv-loop μ-loop
-ascii-requires c κs = search needs
-
-add-i : tie.Need-add-i Inv-loop μ-loop
-add-i c = search needs
-
-loop-less : tie.Need-loop-less Inv-loop μ-loop
-loop-less c = search needs
 
 loop-again : tie.Need-loop-again Inv-loop μ-loop
 loop-again c =
@@ -52,10 +40,10 @@ skip-spec =
     Inv-loop
     μ-loop
     loop-holds
-    sub-loop
-    ascii-requires
-    add-i
-    loop-less
+    (λ c. search needs)
+    (λ c κs. search needs)
+    (λ c. search needs)
+    (λ c. search needs)
     loop-again
     returns
     returns-2)

@@ -3,8 +3,8 @@ use Prim.Native.Nat.{_-_, _≤_}
 use lib.ListN.{length}
 use denote.Ref.{now}
 use native.Mathlib.Omega.{arith}
-use Rattle.utf8.specs.Code.{Passed}
-use Rattle.utf8.proofs.Walk.{passed-none, passed-character, refused-here}
+use Rattle.utf8.specs.Answers.{Passed}
+use Rattle.utf8.proofs.Utf8Walk.{passed-none, passed-character, refused-here}
 use borrow.Author.Needs.{needs}
 use Rattle.utf8.proofs.skip_others.Statement.{statement}
 use Rattle.utf8.proofs.skip_others.Tie as tie
@@ -18,26 +18,14 @@ abbrev μ-loop : tie.MeasureT-loop
 loop-holds : tie.Need-loop-holds Inv-loop μ-loop
 loop-holds c = let a = c .before .args in (search needs, passed-none (now (a .s)) (a .from) (a .end) (omega arith))
 
-shared-slice-read-if1 : tie.Need-shared-slice-read-if1 Inv-loop μ-loop
-shared-slice-read-if1 c = search needs
-
 returns : tie.Need-returns Inv-loop μ-loop
 returns c = record { passed = c .before .before .before .loop .inv .1; none = λ h b. absurd (omega arith) }
-
-char-at-requires : tie.Need-char-at-requires Inv-loop μ-loop
-char-at-requires c κs = search needs
 
 returns-2 : tie.Need-returns-2 Inv-loop μ-loop
 returns-2 c =
     let a = c .before .before .before .before .before .before .before .args in
     let l = c .before .before .before .before .before .loop in
     record { passed = l .inv .1; none = λ h b. refused-here (now (a .s)) (l .i) (a .end) _ (c .before .char-at .ensures) (c .if2 .taken) }
-
-add-i : tie.Need-add-i Inv-loop μ-loop
-add-i c = search needs
-
-loop-less : tie.Need-loop-less Inv-loop μ-loop
-loop-less c = search needs
 
 loop-again : tie.Need-loop-again Inv-loop μ-loop
 loop-again c =
@@ -55,11 +43,11 @@ skip-others-spec =
     Inv-loop
     μ-loop
     loop-holds
-    shared-slice-read-if1
+    (λ c. search needs)
     returns
-    char-at-requires
+    (λ c κs. search needs)
     returns-2
-    add-i
-    loop-less
+    (λ c. search needs)
+    (λ c. search needs)
     loop-again
     returns-3)

@@ -6,7 +6,7 @@ use denote.Ref.{now}
 use native.Mathlib.Omega.{arith}
 use Rattle.rules.specs.Bytes.{part}
 use Rattle.rules.specs.Utf8.{utf8}
-use Rattle.utf8.proofs.Walk.{ascii-byte, nothing-left}
+use Rattle.utf8.proofs.Utf8Walk.{ascii-byte, nothing-left}
 use borrow.Author.Needs.{needs}
 use Rattle.utf8.proofs.valid.Statement.{statement}
 use Rattle.utf8.proofs.valid.Tie as tie
@@ -17,17 +17,11 @@ Inv-loop s from n end i₀ i = (i ≤ end) × (end ≤ length s) × (utf8 (part 
 abbrev μ-loop : tie.MeasureT-loop
 μ-loop s from n end i₀ i = end - i
 
-add-end : tie.Need-add-end Inv-loop μ-loop
-add-end c = search needs
-
 loop-holds : tie.Need-loop-holds Inv-loop μ-loop
 loop-holds c =
     let a = c .before .args in
     let e : a .n ≡ a .from + a .n - a .from = omega arith in
     (search needs, search needs, ap (λ (k : ℕ). utf8 (part (now (a .s)) (a .from) k)) e)
-
-skip-ascii-requires : tie.Need-skip-ascii-requires Inv-loop μ-loop
-skip-ascii-requires c κs = search needs
 
 skip-others-requires : tie.Need-skip-others-requires Inv-loop μ-loop
 skip-others-requires c κs = (c .skip-ascii .ensures .in-part, search needs)
@@ -39,19 +33,10 @@ returns c =
     sym (c .before .before .before .before .loop .inv .2 ∙ c .before .before .skip-ascii .ensures .same ∙ next .ensures .passed .same
     ∙ nothing-left (now (a .s)) (next .result) (a .from + a .n) (c .if1 .taken))
 
-shared-slice-read-if2 : tie.Need-shared-slice-read-if2 Inv-loop μ-loop
-shared-slice-read-if2 c = search needs
-
 returns-2 : tie.Need-returns-2 Inv-loop μ-loop
 returns-2 c =
     let next = c .before .before .before .skip-others .ensures in
     sym (c .before .before .before .before .before .before .loop .inv .2 ∙ c .before .before .before .before .skip-ascii .ensures .same ∙ next .passed .same ∙ next .none (omega arith) (omega arith))
-
-add-i : tie.Need-add-i Inv-loop μ-loop
-add-i c = search needs
-
-loop-less : tie.Need-loop-less Inv-loop μ-loop
-loop-less c = search needs
 
 loop-again : tie.Need-loop-again Inv-loop μ-loop
 loop-again c =
@@ -74,14 +59,14 @@ valid-spec =
     (tie.spec
     Inv-loop
     μ-loop
-    add-end
+    (λ c. search needs)
     loop-holds
-    skip-ascii-requires
+    (λ c κs. search needs)
     skip-others-requires
     returns
-    shared-slice-read-if2
+    (λ c. search needs)
     returns-2
-    add-i
-    loop-less
+    (λ c. search needs)
+    (λ c. search needs)
     loop-again
     returns-3)

@@ -8,7 +8,7 @@ use Rattle.rules.proofs.Tools.{octets-of, part-whole}
 use Rattle.rules.proofs.Steps.{Ok, ok-use}
 use Rattle.rules.proofs.Laid.{PieceStands, authority-inside}
 use Rattle.views.specs.declared.Piece.{Piece}
-use Rattle.views.specs.Parts.{pieceIs}
+use Rattle.views.specs.Shown.{pieceIs}
 use borrow.Author.Needs.{needs}
 use Rattle.views.proofs.authority.Statement.{statement}
 use Rattle.views.proofs.authority.Tie as tie
@@ -18,52 +18,25 @@ use Rattle.views.proofs.chosen_authority.Reads as chosen-authority-read
 
 -- the part lies inside
 inside : (c : lts.After-chosen-authority (chosen-authority-reads.Asked, chosen-authority-reads.Learnt) reads.Pre reads.Post) (p : Piece) → c .chosen-authority .result ≡ p
-    → Ok (PieceStands (now (c .before .before .before .args .reference)) (now (c .before .before .before .args .base))) (pieceIs p)
+    → Ok (PieceStands (now (c .before .before .before .args .base)) (now (c .before .before .before .args .reference))) (pieceIs p)
 inside c p e =
     let k = c .before in
     let ref = now (k .before .before .args .reference) in
     let base = now (k .before .before .args .base) in
-    subst (Ok (PieceStands ref base)) (sym (c .chosen-authority .ensures) ∙ ap pieceIs e)
-    (authority-inside limits ref base (octets-of ref (λ i. omega (arith, k .before .shared-slice-known .given i))) (octets-of base (λ i. omega (arith, k .shared-slice-known2 .given i))))
-
-chosen-authority-requires : tie.Need-chosen-authority-requires
-chosen-authority-requires c κs = search needs
-
-enum-known-span : tie.Need-enum-known-span
-enum-known-span c = search needs
+    subst (Ok (PieceStands base ref)) (sym (c .chosen-authority .ensures) ∙ ap pieceIs e)
+    (authority-inside limits base ref (octets-of base (λ i. omega (arith, k .before .shared-slice-known .given i))) (octets-of ref (λ i. omega (arith, k .shared-slice-known2 .given i))))
 
 add-end : tie.Need-add-end
 add-end c = omega (arith, ok-use (inside (c .before .before .before .before) _ (c .before .before .span .given .1)))
 
-sub-result : tie.Need-sub-result
-sub-result c = search needs
-
-part-result-start : tie.Need-part-result-start
-part-result-start c = search needs
-
 part-result-end : tie.Need-part-result-end
 part-result-end c = omega (arith, ok-use (inside (c .before .before .before .before) _ (c .before .before .span .given .1)))
-
-enum-known-span-2 : tie.Need-enum-known-span-2
-enum-known-span-2 c = search needs
 
 add-end-2 : tie.Need-add-end-2
 add-end-2 c = omega (arith, ok-use (inside (c .before .before .before .before) _ (c .before .before .span2 .given .1)))
 
-sub-result-2 : tie.Need-sub-result-2
-sub-result-2 c = search needs
-
-part-result-start-2 : tie.Need-part-result-start-2
-part-result-start-2 c = search needs
-
 part-result-end-2 : tie.Need-part-result-end-2
 part-result-end-2 c = omega (arith, ok-use (inside (c .before .before .before .before) _ (c .before .before .span2 .given .1)))
-
-enum-told : tie.Need-enum-told
-enum-told c = search needs
-
-slice-aggregate-result : tie.Need-slice-aggregate-result
-slice-aggregate-result c = search needs
 
 returns : tie.Need-returns
 returns c =
@@ -86,19 +59,19 @@ pub authority-spec : {M : Type 1} → statement M
 authority-spec =
     tie.close
     (tie.spec
-    chosen-authority-requires
-    enum-known-span
+    (λ c κs. search needs)
+    (λ c. search needs)
     add-end
-    sub-result
-    part-result-start
+    (λ c. search needs)
+    (λ c. search needs)
     part-result-end
-    enum-known-span-2
+    (λ c. search needs)
     add-end-2
-    sub-result-2
-    part-result-start-2
+    (λ c. search needs)
+    (λ c. search needs)
     part-result-end-2
-    enum-told
-    slice-aggregate-result
+    (λ c. search needs)
+    (λ c. search needs)
     returns
     returns-2
     returns-3)

@@ -7,15 +7,6 @@ use borrow.Author.Needs.{needs}
 use Rattle.views.proofs.base_item.Statement.{statement}
 use Rattle.views.proofs.base_item.Tie as tie
 
-enum-told : tie.Need-enum-told
-enum-told c = search needs
-
-enum-told-2 : tie.Need-enum-told-2
-enum-told-2 c = search needs
-
-enum-known-base : tie.Need-enum-known-base
-enum-known-base c = search needs
-
 item-span-requires : tie.Need-item-span-requires
 item-span-requires c κs = (rw (c .before .base .given .1) at (c .before .before .before .pre)) .1
 
@@ -31,4 +22,4 @@ returns-3 c = simp (c .before .before .base .given .1) (ap (λ (s : Span). ok (o
 pub base-item-spec : {M : Type 1} → statement M
 base-item-spec =
     tie.close
-    (tie.spec enum-told enum-told-2 enum-known-base item-span-requires returns returns-2 returns-3)
+    (tie.spec (λ c. search needs) (λ c. search needs) (λ c. search needs) item-span-requires returns returns-2 returns-3)

@@ -7,29 +7,11 @@ use Rattle.rules.specs.Views.{authorityView}
 use Rattle.rules.proofs.Tools.{octets-of}
 use Rattle.rules.proofs.Steps.{bind-ok, bind-refused, ok-at}
 use Rattle.rules.proofs.Laid.{ordered, laid}
-use Rattle.reader.specs.Code.{openingOf, answerIs}
-use Rattle.absolutes.proofs.Openings.{base-read, base-then}
+use Rattle.reader.specs.Answers.{openingOf, answerIs}
+use Rattle.absolutes.proofs.AbsoluteOpenings.{base-read, base-then}
 use borrow.Author.Needs.{needs}
 use Rattle.views.proofs.chosen_authority.Statement.{statement}
 use Rattle.views.proofs.chosen_authority.Tie as tie
-
-read-base-requires : tie.Need-read-base-requires
-read-base-requires c κs = search needs
-
-enum-known-k : tie.Need-enum-known-k
-enum-known-k c = search needs
-
-enum-known-b : tie.Need-enum-known-b
-enum-known-b c = search needs
-
-read-requires : tie.Need-read-requires
-read-requires c κs = search needs
-
-enum-known-k-2 : tie.Need-enum-known-k-2
-enum-known-k-2 c = search needs
-
-enum-known-r : tie.Need-enum-known-r
-enum-known-r c = search needs
 
 chosen-item-requires : tie.Need-chosen-item-requires
 chosen-item-requires c κs =
@@ -39,8 +21,8 @@ chosen-item-requires c κs =
     let ref = now (k .before .before .args .reference) in
     let base = now (k .before .before .args .base) in
     let found = ok-at (base-read limits base) (sym (n .before .before .read-base .ensures) ∙ ap answerIs (n .b .given .1)) .0 in (
-      ordered ref (openingOf (c .before .r .given .0 .0 .opening)) (ok-at (laid limits ref (octets-of ref (λ i. omega (arith, k .before .shared-slice-known .given i)))) (sym (m .read .ensures) ∙ ap answerIs (c .before .r .given .1)) .opening),
-      ordered base (openingOf (n .b .given .0 .0 .opening)) (ok-at (laid limits base (octets-of base (λ i. omega (arith, k .shared-slice-known2 .given i)))) found .opening),
+      ordered base (openingOf (n .b .given .0 .0 .opening)) (ok-at (laid limits base (octets-of base (λ i. omega (arith, k .before .shared-slice-known .given i)))) found .opening),
+      ordered ref (openingOf (c .before .r .given .0 .0 .opening)) (ok-at (laid limits ref (octets-of ref (λ i. omega (arith, k .shared-slice-known2 .given i)))) (sym (m .read .ensures) ∙ ap answerIs (c .before .r .given .1)) .opening),
     )
 
 returns : tie.Need-returns
@@ -70,12 +52,12 @@ pub chosen-authority-spec : {M : Type 1} → statement M
 chosen-authority-spec =
     tie.close
     (tie.spec
-    read-base-requires
-    enum-known-k
-    enum-known-b
-    read-requires
-    enum-known-k-2
-    enum-known-r
+    (λ c κs. search needs)
+    (λ c. search needs)
+    (λ c. search needs)
+    (λ c κs. search needs)
+    (λ c. search needs)
+    (λ c. search needs)
     chosen-item-requires
     returns
     returns-2

@@ -7,23 +7,8 @@ use borrow.Author.Needs.{needs}
 use Rattle.views.proofs.chosen_item.Statement.{statement}
 use Rattle.views.proofs.chosen_item.Tie as tie
 
-enum-told : tie.Need-enum-told
-enum-told c = search needs
-
-base-item-requires : tie.Need-base-item-requires
-base-item-requires c κs = search needs
-
-enum-told-2 : tie.Need-enum-told-2
-enum-told-2 c = search needs
-
-base-item-requires-2 : tie.Need-base-item-requires-2
-base-item-requires-2 c κs = search needs
-
-enum-known-reference : tie.Need-enum-known-reference
-enum-known-reference c = search needs
-
 item-span-requires : tie.Need-item-span-requires
-item-span-requires c κs = (rw (c .before .reference .given .1) at (c .before .before .before .pre .0)) .1
+item-span-requires c κs = (rw (c .before .reference .given .1) at (c .before .before .before .pre .1)) .1
 
 returns : tie.Need-returns
 returns c = simp (c .before .enum-told .given .1) (c .base-item .ensures)
@@ -38,11 +23,11 @@ pub chosen-item-spec : {M : Type 1} → statement M
 chosen-item-spec =
     tie.close
     (tie.spec
-    enum-told
-    base-item-requires
-    enum-told-2
-    base-item-requires-2
-    enum-known-reference
+    (λ c. search needs)
+    (λ c κs. search needs)
+    (λ c. search needs)
+    (λ c κs. search needs)
+    (λ c. search needs)
     item-span-requires
     returns
     returns-2

@@ -8,25 +8,16 @@ use Rattle.rules.proofs.Tools.{octets-of}
 use Rattle.rules.specs.Views.{segmentView}
 use Rattle.rules.specs.Meaning.{components}
 use Rattle.rules.specs.Model.{limits}
-use Rattle.reader.specs.Code.{answerIs}
+use Rattle.reader.specs.Answers.{answerIs}
 use borrow.Author.Needs.{needs}
 use Rattle.views.proofs.nth_segment.Statement.{statement}
 use Rattle.views.proofs.nth_segment.Tie as tie
-
-read-requires : tie.Need-read-requires
-read-requires c κs = search needs
-
-enum-known-found : tie.Need-enum-known-found
-enum-known-found c = search needs
 
 path-segment-requires : tie.Need-path-segment-requires
 path-segment-requires c κs =
     let m = c .before .before .before in
     let s = now (m .before .before .args .s) in
     ok-at (stands limits s (octets-of s (λ i. omega (arith, m .before .shared-slice-known .given i)))) (sym (m .read .ensures) ∙ ap answerIs (c .before .found .given .1)) .path
-
-enum-known-k : tie.Need-enum-known-k
-enum-known-k c = search needs
 
 returns : tie.Need-returns
 unfolding segmentView components
@@ -39,4 +30,4 @@ returns-2 c = bind-refused _ _ _ _ (ap answerIs (sym (c .before .k .given .1)) �
 pub nth-segment-spec : {M : Type 1} → statement M
 nth-segment-spec =
     tie.close
-    (tie.spec read-requires enum-known-found path-segment-requires enum-known-k returns returns-2)
+    (tie.spec (λ c κs. search needs) (λ c. search needs) path-segment-requires (λ c. search needs) returns returns-2)

@@ -3,8 +3,8 @@ use Prim.Native.Nat.{suc}
 use native.Mathlib.Omega.{arith}
 use mathlib.Core.Path.{sym, ap, _∙_, subst}
 use Rattle.rules.specs.Reader.{spanAt}
-use Rattle.rules.proofs.Texts.{ItemStands}
-use Rattle.runs.proofs.Rows.{first-items, nth-stands}
+use Rattle.rules.specs.Standing.{ItemStands}
+use Rattle.cbor_rows.proofs.Rows.{first-items, nth-stands}
 use Rattle.views.proofs.nth_span.Statement.{statement}
 use Rattle.views.proofs.nth_span.Tie as tie
 

@@ -3,16 +3,10 @@ use Prim.Native.Nat.{suc}
 use mathlib.Core.Path.{ap}
 use denote.Ref.{now}
 use Rattle.rules.specs.Result.{ok, given}
-use Rattle.runs.proofs.Rows.{first-items, nth-span, no-span}
+use Rattle.cbor_rows.proofs.Rows.{first-items, nth-span, no-span}
 use borrow.Author.Needs.{needs}
 use Rattle.views.proofs.path_segment.Statement.{statement}
 use Rattle.views.proofs.path_segment.Tie as tie
-
-enum-told : tie.Need-enum-told
-enum-told c = search needs
-
-enum-known-path : tie.Need-enum-known-path
-enum-known-path c = search needs
 
 nth-span-requires : tie.Need-nth-span-requires
 nth-span-requires c κs =
@@ -39,4 +33,4 @@ returns-3 c =
 
 pub path-segment-spec : {M : Type 1} → statement M
 path-segment-spec =
-    tie.close (tie.spec enum-told enum-known-path nth-span-requires returns returns-2 returns-3)
+    tie.close (tie.spec (λ c. search needs) (λ c. search needs) nth-span-requires returns returns-2 returns-3)

@@ -9,7 +9,7 @@ use Rattle.rules.proofs.Standing.{segment-inside}
 use Rattle.rules.proofs.Steps.{ok-at}
 use Rattle.rules.proofs.Tools.{octets-of, part-whole}
 use Rattle.rules.specs.Model.{limits}
-use Rattle.views.specs.Parts.{viewIs}
+use Rattle.views.specs.Shown.{viewIs}
 use borrow.Author.Needs.{needs}
 use Rattle.views.proofs.segment.Statement.{statement}
 use Rattle.views.proofs.segment.Tie as tie
@@ -19,42 +19,24 @@ use Rattle.views.proofs.nth_segment.Reads as nth-segment-reads
 
 -- the part lies inside
 inside : (c : lts.After-span (nth-segment-reads.Asked, nth-segment-reads.Learnt) reads.Pre reads.Post)
-    → c .span .given .0 .0 .start + c .span .given .0 .0 .length ≤ length (now (c .before .before .before .before .args .s))
+    → c .span .given .0 .0 .start + c .span .given .0 .0 .length ≤ length (now (c .before .before .before .before .args .link))
 inside c =
     let a = c .before .before in
-    let s = now (a .before .before .args .s) in
+    let s = now (a .before .before .args .link) in
     ok-at (segment-inside limits s _ (octets-of s (λ i. omega (arith, a .before .shared-slice-known .given i)))) (sym (a .nth-segment .ensures) ∙ ap viewIs (c .span .given .1))
-
-nth-segment-requires : tie.Need-nth-segment-requires
-nth-segment-requires c κs = search needs
-
-enum-known-span : tie.Need-enum-known-span
-enum-known-span c = search needs
 
 add-end : tie.Need-add-end
 add-end c = omega (arith, inside (c .before .before))
 
-sub-result : tie.Need-sub-result
-sub-result c = search needs
-
-part-result-start : tie.Need-part-result-start
-part-result-start c = search needs
-
 part-result-end : tie.Need-part-result-end
 part-result-end c = omega (arith, inside (c .before .before))
-
-enum-told : tie.Need-enum-told
-enum-told c = search needs
-
-slice-aggregate-result : tie.Need-slice-aggregate-result
-slice-aggregate-result c = search needs
 
 returns : tie.Need-returns
 returns c =
     let v = c .before .before .before in
     let a = v .before .before in
     let span = v .span .given .0 .0 in
-    simp (sym (a .nth-segment .ensures) ∙ ap viewIs (v .span .given .1)) (refl, sym (part-whole (now (a .before .before .args .s)) (span .start) (span .length)))
+    simp (sym (a .nth-segment .ensures) ∙ ap viewIs (v .span .given .1)) (refl, sym (part-whole (now (a .before .before .args .link)) (span .start) (span .length)))
 
 returns-2 : tie.Need-returns-2
 returns-2 c = simp (sym (c .before .before .before .nth-segment .ensures) ∙ ap viewIs (c .before .enum-told .given .1), zero-add) (refl, refl)
@@ -63,13 +45,13 @@ pub segment-spec : {M : Type 1} → statement M
 segment-spec =
     tie.close
     (tie.spec
-    nth-segment-requires
-    enum-known-span
+    (λ c κs. search needs)
+    (λ c. search needs)
     add-end
-    sub-result
-    part-result-start
+    (λ c. search needs)
+    (λ c. search needs)
     part-result-end
-    enum-told
-    slice-aggregate-result
+    (λ c. search needs)
+    (λ c. search needs)
     returns
     returns-2)

@@ -4,7 +4,7 @@ use native.Mathlib.Omega.{arith}
 use mathlib.Core.Path.{_≡_, sym, _∙_}
 use lib.ListN.{length, drop}
 use denote.Ref.{now}
-use Rattle.words.proofs.Laws.{digit-right, digit-wrong, digits-end}
+use Rattle.words.proofs.Words.{digit-right, digit-wrong, digits-end}
 use Rattle.words.specs.Words.{areDigits}
 use borrow.Author.Needs.{needs}
 use Rattle.words.proofs.are_digits.Statement.{statement}
@@ -16,26 +16,11 @@ Inv-loop word base i₀ i = (i ≤ length word) × (areDigits base word ≡ areD
 abbrev μ-loop : tie.MeasureT-loop
 μ-loop word base i₀ i = length word - i
 
-loop-holds : tie.Need-loop-holds Inv-loop μ-loop
-loop-holds c = search needs
-
-shared-slice-read-value-of : tie.Need-shared-slice-read-value-of Inv-loop μ-loop
-shared-slice-read-value-of c = search needs
-
-value-of-requires : tie.Need-value-of-requires Inv-loop μ-loop
-value-of-requires c κs = search needs
-
 returns : tie.Need-returns Inv-loop μ-loop
 returns c =
     let l = c .before .before .before .before in
     let a = l .before .before .args in
     sym (l .loop .inv .1 ∙ digit-wrong (a .base) (now (a .word)) (l .loop .i) _ (c .before .value-of .ensures) (omega arith) (c .if1 .taken))
-
-add-i : tie.Need-add-i Inv-loop μ-loop
-add-i c = search needs
-
-loop-less : tie.Need-loop-less Inv-loop μ-loop
-loop-less c = search needs
 
 loop-again : tie.Need-loop-again Inv-loop μ-loop
 loop-again c =
@@ -55,11 +40,11 @@ are-digits-spec =
     (tie.spec
     Inv-loop
     μ-loop
-    loop-holds
-    shared-slice-read-value-of
-    value-of-requires
+    (λ c. search needs)
+    (λ c. search needs)
+    (λ c κs. search needs)
     returns
-    add-i
-    loop-less
+    (λ c. search needs)
+    (λ c. search needs)
     loop-again
     returns-2)

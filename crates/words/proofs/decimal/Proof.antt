@@ -5,12 +5,6 @@ use borrow.Author.Needs.{needs}
 use Rattle.words.proofs.decimal.Statement.{statement}
 use Rattle.words.proofs.decimal.Tie as tie
 
-some-digits-requires : tie.Need-some-digits-requires
-some-digits-requires c κs = search needs
-
-digits-number-requires : tie.Need-digits-number-requires
-digits-number-requires c κs = search needs
-
 returns : tie.Need-returns
 unfolding numberOf
 returns c = rw (sym (c .before .before .some-digits .ensures) ∙ c .before .if1 .taken) (c .digits-number .ensures)
@@ -20,4 +14,4 @@ unfolding numberOf
 returns-2 c = rw (sym (c .before .some-digits .ensures) ∙ c .if1 .left)
 
 pub decimal-spec : {M : Type 1} → statement M
-decimal-spec = tie.close (tie.spec some-digits-requires digits-number-requires returns returns-2)
+decimal-spec = tie.close (tie.spec (λ c κs. search needs) (λ c κs. search needs) returns returns-2)

@@ -4,7 +4,7 @@ use native.Mathlib.Omega.{arith}
 use mathlib.Core.Path.{_≡_, _∙_}
 use lib.ListN.{length, drop}
 use denote.Ref.{now}
-use Rattle.words.proofs.Laws.{decimal-step, decimal-end, decimal-grows, over, fits}
+use Rattle.words.proofs.Words.{decimal-step, decimal-end, decimal-grows, over, fits}
 use Rattle.words.specs.Words.{decimalFrom}
 use borrow.Author.Needs.{needs}
 use Rattle.words.proofs.digits_number.Statement.{statement}
@@ -16,21 +16,6 @@ Inv-loop word v₀ i₀ v i = (i ≤ length word) × (v < 2 ^ 64) × (decimalFro
 abbrev μ-loop : tie.MeasureT-loop
 μ-loop word v₀ i₀ v i = length word - i
 
-loop-holds : tie.Need-loop-holds Inv-loop μ-loop
-loop-holds c = search needs
-
-shared-slice-read-value-of : tie.Need-shared-slice-read-value-of Inv-loop μ-loop
-shared-slice-read-value-of c = search needs
-
-value-of-requires : tie.Need-value-of-requires Inv-loop μ-loop
-value-of-requires c κs = search needs
-
-cast-d : tie.Need-cast-d Inv-loop μ-loop
-cast-d c = search needs
-
-sub-if1 : tie.Need-sub-if1 Inv-loop μ-loop
-sub-if1 c = search needs
-
 returns : tie.Need-returns Inv-loop μ-loop
 returns c =
     let l = c .before .before .before .before in
@@ -38,18 +23,6 @@ returns c =
     let d = c .before .value-of .result in
     let e : decimalFrom 0 w ≡ decimalFrom (l .loop .v * 10 + d) (drop (l .loop .i + 1) w) = l .loop .inv .2 ∙ decimal-step (l .loop .v) w (l .loop .i) d (c .before .value-of .ensures) (omega arith) in
     over _ (omega (arith, decimal-grows (l .loop .v * 10 + d) (drop (l .loop .i + 1) w)))
-
-mul-v : tie.Need-mul-v Inv-loop μ-loop
-mul-v c = search needs
-
-add-v : tie.Need-add-v Inv-loop μ-loop
-add-v c = search needs
-
-add-i : tie.Need-add-i Inv-loop μ-loop
-add-i c = search needs
-
-loop-less : tie.Need-loop-less Inv-loop μ-loop
-loop-less c = search needs
 
 loop-again : tie.Need-loop-again Inv-loop μ-loop
 loop-again c =
@@ -68,15 +41,15 @@ digits-number-spec =
     (tie.spec
     Inv-loop
     μ-loop
-    loop-holds
-    shared-slice-read-value-of
-    value-of-requires
-    cast-d
-    sub-if1
+    (λ c. search needs)
+    (λ c. search needs)
+    (λ c κs. search needs)
+    (λ c. search needs)
+    (λ c. search needs)
     returns
-    mul-v
-    add-v
-    add-i
-    loop-less
+    (λ c. search needs)
+    (λ c. search needs)
+    (λ c. search needs)
+    (λ c. search needs)
     loop-again
     returns-2)

@@ -2,13 +2,10 @@
 use mathlib.Core.Path.{refl, sym, ap, _∙_}
 use lib.Seq.{sets}
 use denote.Ref.{now}
-use Rattle.words.proofs.Laws.{hex-dash, hex-digits, hex-none, dash-pairs, digits-all}
+use Rattle.words.proofs.Words.{hex-dash, hex-digits, hex-none, dash-pairs, digits-all}
 use borrow.Author.Needs.{needs}
 use Rattle.words.proofs.hex_bytes.Statement.{statement}
 use Rattle.words.proofs.hex_bytes.Tie as tie
-
-is-dash-requires : tie.Need-is-dash-requires
-is-dash-requires c κs = search needs
 
 returns : tie.Need-returns
 returns c =
@@ -16,16 +13,10 @@ returns c =
     let e = sym (c .before .is-dash .ensures) ∙ c .if1 .taken in
     (hex-dash _ _ e, ap (sets (now (a .room)) 0) (sym (dash-pairs (now (a .word)) e)))
 
-some-digits-requires : tie.Need-some-digits-requires
-some-digits-requires c κs = search needs
-
 put-digits-requires : tie.Need-put-digits-requires
 put-digits-requires c κs =
     let d = c .before .before in
     digits-all 16 _ (sym (d .some-digits .ensures) ∙ c .before .if2 .taken)
-
-same-length : tie.Need-same-length
-same-length c = search needs
 
 returns-2 : tie.Need-returns-2
 returns-2 c =
@@ -43,10 +34,10 @@ pub hex-bytes-spec : {M : Type 1} → statement M
 hex-bytes-spec =
     tie.close
     (tie.spec
-    is-dash-requires
+    (λ c κs. search needs)
     returns
-    some-digits-requires
+    (λ c κs. search needs)
     put-digits-requires
-    same-length
+    (λ c. search needs)
     returns-2
     returns-3)

@@ -5,9 +5,6 @@ use borrow.Author.Needs.{needs}
 use Rattle.words.proofs.is_dash.Statement.{statement}
 use Rattle.words.proofs.is_dash.Tie as tie
 
-shared-slice-read-result : tie.Need-shared-slice-read-result
-shared-slice-read-result c = search needs
-
 returns : tie.Need-returns
 unfolding isDash
 returns c = rw (eq-eqb _ 1 (c .before .if1 .taken))
@@ -17,4 +14,4 @@ unfolding isDash
 returns-2 c = rw (ne-eqb _ 1 (c .if1 .left))
 
 pub is-dash-spec : {M : Type 1} → statement M
-is-dash-spec = tie.close (tie.spec shared-slice-read-result returns returns-2)
+is-dash-spec = tie.close (tie.spec (λ c. search needs) returns returns-2)

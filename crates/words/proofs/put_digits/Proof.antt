@@ -2,7 +2,7 @@
 use native.Mathlib.Omega.{arith}
 use mathlib.Core.Path.{refl}
 use denote.Ref.{now}
-use Rattle.words.proofs.Laws.{held-odd, held-not, held, pairs-length}
+use Rattle.words.proofs.Words.{held-odd, held-not, held, pairs-length}
 use borrow.Author.Needs.{needs}
 use Rattle.words.proofs.put_digits.Statement.{statement}
 use Rattle.words.proofs.put_digits.Tie as tie
@@ -18,9 +18,6 @@ put-pairs-requires c κs =
     let s = c .before .before .before .before .before in
     (s .pre, omega (arith, pairs-length (now (s .args .word))))
 
-same-length : tie.Need-same-length
-same-length c = search needs
-
 returns-3 : tie.Need-returns-3
 returns-3 c =
     let p = c .before .before in
@@ -29,4 +26,4 @@ returns-3 c =
     (held _ _ _ (l .before .if1 .left) (l .if2 .left) (omega (arith, p .put-pairs .ensures .place, pairs-length w)), p .put-pairs .ensures .bytes)
 
 pub put-digits-spec : {M : Type 1} → statement M
-put-digits-spec = tie.close (tie.spec returns returns-2 put-pairs-requires same-length returns-3)
+put-digits-spec = tie.close (tie.spec returns returns-2 put-pairs-requires (λ c. search needs) returns-3)

@@ -6,8 +6,8 @@ use mathlib.Core.List.{[], _∷_}
 use lib.ListN.{length, drop, getD}
 use denote.Ref.{now}
 use Rattle.words.specs.Words.{pairBytes, valueOf}
-use Rattle.put.proofs.Laws.{Left, Next, left-done, next-room, next-wrote, wrote-one}
-use Rattle.words.proofs.Laws.{digit-at, pairs-step, pairs-end}
+use Rattle.put.proofs.Wrote.{Left, Next, left-done, next-room, next-wrote, wrote-one}
+use Rattle.words.proofs.Words.{digit-at, pairs-step, pairs-end}
 use borrow.Author.Needs.{needs}
 use Rattle.words.proofs.put_pairs.Statement.{statement}
 use Rattle.words.proofs.put_pairs.Tie as tie
@@ -18,9 +18,6 @@ Inv-loop room₀ word n i₀ room i = (i ≤ n) × (n ≡ length word / 2) × Le
 abbrev μ-loop : tie.MeasureT-loop
 μ-loop room₀ word n i₀ room i = n - i
 
-loop-holds : tie.Need-loop-holds Inv-loop μ-loop
-loop-holds c = search needs
-
 -- the pair at i, and what is left after it
 turn : (t : tie.In-loop Inv-loop μ-loop) → let l = t .before .loop in let a = t .before .before .before .before .args in let w = now (a .word) in
     Next (l .room) (l .i) ((valueOf (getD w (2 * l .i) 0) * 16 + valueOf (getD w (2 * l .i + 1) 0)) ∷ []) (pairBytes (drop (2 * (l .i + 1)) w)) (now (a .room)) 0 (pairBytes w)
@@ -28,32 +25,11 @@ turn t =
     let l = t .before .loop in
     record { left = rw (pairs-step (now (t .before .before .before .before .args .word)) (l .i) (omega arith)) at (l .inv .2) }
 
-mul-value-of : tie.Need-mul-value-of Inv-loop μ-loop
-mul-value-of c = search needs
-
-shared-slice-read-value-of : tie.Need-shared-slice-read-value-of Inv-loop μ-loop
-shared-slice-read-value-of c = search needs
-
-value-of-requires : tie.Need-value-of-requires Inv-loop μ-loop
-value-of-requires c κs = search needs
-
 mul-room : tie.Need-mul-room Inv-loop μ-loop
 mul-room c =
     let t = c .before .before in
     let s = t .before .before .before .before in
     omega (arith, c .value-of .ensures, digit-at 16 (now (s .args .word)) (2 * t .before .loop .i) (s .pre .0) (omega arith))
-
-mul-value-of-2 : tie.Need-mul-value-of-2 Inv-loop μ-loop
-mul-value-of-2 c = search needs
-
-add-value-of : tie.Need-add-value-of Inv-loop μ-loop
-add-value-of c = search needs
-
-shared-slice-read-value-of-2 : tie.Need-shared-slice-read-value-of-2 Inv-loop μ-loop
-shared-slice-read-value-of-2 c = search needs
-
-value-of-requires-2 : tie.Need-value-of-requires-2 Inv-loop μ-loop
-value-of-requires-2 c κs = search needs
 
 add-room : tie.Need-add-room Inv-loop μ-loop
 add-room c =
@@ -73,19 +49,10 @@ slice-write-room c =
     let t = c .before .before .before .before in
     omega (arith, next-room (turn t) (omega arith))
 
-add-i : tie.Need-add-i Inv-loop μ-loop
-add-i c = search needs
-
-loop-less : tie.Need-loop-less Inv-loop μ-loop
-loop-less c = search needs
-
 loop-again : tie.Need-loop-again Inv-loop μ-loop
 loop-again c =
     let t = c .before .before .before .before in
     (omega arith, refl, next-wrote (turn t) (rw (c .value-of2 .ensures, c .before .before .value-of .ensures) wrote-one))
-
-same-length : tie.Need-same-length Inv-loop μ-loop
-same-length c = search needs
 
 returns : tie.Need-returns Inv-loop μ-loop
 returns c =
@@ -98,19 +65,19 @@ put-pairs-spec =
     (tie.spec
     Inv-loop
     μ-loop
-    loop-holds
-    mul-value-of
-    shared-slice-read-value-of
-    value-of-requires
+    (λ c. search needs)
+    (λ c. search needs)
+    (λ c. search needs)
+    (λ c κs. search needs)
     mul-room
-    mul-value-of-2
-    add-value-of
-    shared-slice-read-value-of-2
-    value-of-requires-2
+    (λ c. search needs)
+    (λ c. search needs)
+    (λ c. search needs)
+    (λ c κs. search needs)
     add-room
     slice-write-room
-    add-i
-    loop-less
+    (λ c. search needs)
+    (λ c. search needs)
     loop-again
-    same-length
+    (λ c. search needs)
     returns)

@@ -5,9 +5,6 @@ use borrow.Author.Needs.{needs}
 use Rattle.words.proofs.some_digits.Statement.{statement}
 use Rattle.words.proofs.some_digits.Tie as tie
 
-are-digits-requires : tie.Need-are-digits-requires
-are-digits-requires c κs = search needs
-
 returns : tie.Need-returns
 unfolding someDigits
 returns c = rw (lt-ltb 0 _ (c .before .if1 .taken)) (c .are-digits .ensures)
@@ -17,4 +14,4 @@ unfolding someDigits
 returns-2 c = rw (le-ltb 0 _ (c .if1 .left))
 
 pub some-digits-spec : {M : Type 1} → statement M
-some-digits-spec = tie.close (tie.spec are-digits-requires returns returns-2)
+some-digits-spec = tie.close (tie.spec (λ c κs. search needs) returns returns-2)

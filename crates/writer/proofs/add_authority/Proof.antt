@@ -2,30 +2,12 @@
 use mathlib.Core.Path.{refl, sym, ap}
 use Rattle.rules.specs.Bytes.{concat}
 use Rattle.rules.proofs.Standing.{none-lie}
-use Rattle.writer.proofs.Laws.{added-none, added-as}
-use Rattle.writer.proofs.Items.{one-lies, one-lying, one-item, no-authority, null-authority}
-use Rattle.writer.specs.Items.{authorityItems}
+use Rattle.writer.proofs.Added.{added-none, added-as}
+use Rattle.writer.proofs.AddedItems.{one-lies, one-lying, one-item, no-authority, null-authority}
+use Rattle.writer.specs.AddedItems.{authorityItems}
 use borrow.Author.Needs.{needs}
 use Rattle.writer.proofs.add_authority.Statement.{statement}
 use Rattle.writer.proofs.add_authority.Tie as tie
-
-enum-told : tie.Need-enum-told
-enum-told c = search needs
-
-add-null-requires : tie.Need-add-null-requires
-add-null-requires c κs = search needs
-
-enum-known-authority : tie.Need-enum-known-authority
-enum-known-authority c = search needs
-
-add-address-requires : tie.Need-add-address-requires
-add-address-requires c κs = search needs
-
-enum-known-authority-2 : tie.Need-enum-known-authority-2
-enum-known-authority-2 c = search needs
-
-add-name-requires : tie.Need-add-name-requires
-add-name-requires c κs = search needs
 
 returns : tie.Need-returns
 unfolding concat
@@ -47,12 +29,12 @@ pub add-authority-spec : {M : Type 1} → statement M
 add-authority-spec =
     tie.close
     (tie.spec
-    enum-told
-    add-null-requires
-    enum-known-authority
-    add-address-requires
-    enum-known-authority-2
-    add-name-requires
+    (λ c. search needs)
+    (λ c κs. search needs)
+    (λ c. search needs)
+    (λ c κs. search needs)
+    (λ c. search needs)
+    (λ c κs. search needs)
     returns
     returns-2
     returns-3

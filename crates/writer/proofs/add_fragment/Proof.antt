@@ -3,21 +3,12 @@ use mathlib.Core.Path.{refl}
 use Rattle.rules.specs.Bytes.{concat}
 use Rattle.rules.specs.Encode.{textItem}
 use Rattle.rules.proofs.Standing.{none-lie}
-use Rattle.writer.specs.Items.{stringItem, fragmentItems}
-use Rattle.writer.proofs.Laws.{added-none, added-as}
-use Rattle.writer.proofs.Items.{one-lies, one-lying, one-item}
+use Rattle.writer.specs.AddedItems.{stringItem, fragmentItems}
+use Rattle.writer.proofs.Added.{added-none, added-as}
+use Rattle.writer.proofs.AddedItems.{one-lies, one-lying, one-item}
 use borrow.Author.Needs.{needs}
 use Rattle.writer.proofs.add_fragment.Statement.{statement}
 use Rattle.writer.proofs.add_fragment.Tie as tie
-
-enum-told : tie.Need-enum-told
-enum-told c = search needs
-
-enum-known-fragment : tie.Need-enum-known-fragment
-enum-known-fragment c = search needs
-
-add-string-requires : tie.Need-add-string-requires
-add-string-requires c κs = search needs
 
 returns : tie.Need-returns
 unfolding fragmentItems concat
@@ -29,4 +20,4 @@ returns-2 c = rw (c .before .before .before .fragment .given .1) (added-as (one-
 
 pub add-fragment-spec : {M : Type 1} → statement M
 add-fragment-spec =
-    tie.close (tie.spec enum-told enum-known-fragment add-string-requires returns returns-2)
+    tie.close (tie.spec (λ c. search needs) (λ c. search needs) (λ c κs. search needs) returns returns-2)

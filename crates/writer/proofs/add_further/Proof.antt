@@ -2,8 +2,8 @@
 use mathlib.Core.Path.{sym, _∙_}
 use denote.Ref.{now}
 use Rattle.components.specs.Content.{componentsOf}
-use Rattle.writer.proofs.Laws.{added-none, added-as, added-then}
-use Rattle.writer.proofs.Items.{tail-none, tail-one, tail-more}
+use Rattle.writer.proofs.Added.{added-none, added-as, added-then}
+use Rattle.writer.proofs.AddedItems.{tail-none, tail-one, tail-more}
 use borrow.Author.Needs.{needs}
 use Rattle.writer.proofs.add_further.Statement.{statement}
 use Rattle.writer.proofs.add_further.Tie as tie
@@ -14,20 +14,11 @@ returns c =
     let t = tail-none (now (a .lent)) (componentsOf (a .c) .path) (componentsOf (a .c) .query) (componentsOf (a .c) .fragment) (sym (c .before .before .before .before .pre) ∙ c .if1 .taken) in
     added-as (λ _. t .1) (λ _. tt) (λ _. t .0) added-none
 
-add-path-requires : tie.Need-add-path-requires
-add-path-requires c κs = search needs
-
 returns-2 : tie.Need-returns-2
 returns-2 c =
     let a = c .before .before .before .before .before .before .before .args in
     let t = tail-one (now (a .lent)) (componentsOf (a .c) .path) (componentsOf (a .c) .query) (componentsOf (a .c) .fragment) (sym (c .before .before .before .before .before .before .before .pre) ∙ c .if2 .taken) in
     added-as (t .1) (λ g. g .0) (λ _. t .0) (c .before .add-path .ensures)
-
-add-query-requires : tie.Need-add-query-requires
-add-query-requires c κs = search needs
-
-add-fragment-requires : tie.Need-add-fragment-requires
-add-fragment-requires c κs = search needs
 
 returns-3 : tie.Need-returns-3
 returns-3 c =
@@ -42,8 +33,8 @@ add-further-spec =
     tie.close
     (tie.spec
     returns
-    add-path-requires
+    (λ c κs. search needs)
     returns-2
-    add-query-requires
-    add-fragment-requires
+    (λ c κs. search needs)
+    (λ c κs. search needs)
     returns-3)

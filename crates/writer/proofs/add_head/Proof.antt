@@ -1,14 +1,11 @@
 -- `writer::add_head` meets its contract.
 use native.Mathlib.Omega.{arith}
 use Rattle.cbor.specs.Heads.{kindIs}
-use Rattle.heads.proofs.Laws.{head-most}
-use Rattle.writer.proofs.Laws.{added-wrote, added-over}
+use Rattle.cbor_heads.proofs.ShortestHead.{head-most}
+use Rattle.writer.proofs.Added.{added-wrote, added-over}
 use borrow.Author.Needs.{needs}
 use Rattle.writer.proofs.add_head.Statement.{statement}
 use Rattle.writer.proofs.add_head.Tie as tie
-
-head-length-requires : tie.Need-head-length-requires
-head-length-requires c κs = search needs
 
 sub-if1 : tie.Need-sub-if1
 sub-if1 c = let a = c .before .args in omega (arith, c .head-length .ensures (kindIs (a .kind)), head-most (kindIs (a .kind)) (a .v))
@@ -30,4 +27,4 @@ returns-2 c =
 
 pub add-head-spec : {M : Type 1} → statement M
 add-head-spec =
-    tie.close (tie.spec head-length-requires sub-if1 returns put-head-requires returns-2)
+    tie.close (tie.spec (λ c κs. search needs) sub-if1 returns put-head-requires returns-2)

@@ -1,7 +1,7 @@
 -- `writer::add_name` meets its contract.
 use native.Mathlib.Omega.{arith}
-use Rattle.writer.proofs.Laws.{added-over, added-as, added-then}
-use Rattle.writer.proofs.Items.{few-most, few, labels-said, port-most}
+use Rattle.writer.proofs.Added.{added-over, added-as, added-then}
+use Rattle.writer.proofs.AddedItems.{few-most, few, labels-said, port-most}
 use borrow.Author.Needs.{needs}
 use Rattle.writer.proofs.add_name.Statement.{statement}
 use Rattle.writer.proofs.add_name.Tie as tie
@@ -9,20 +9,8 @@ use Rattle.writer.proofs.add_name.Tie as tie
 returns : tie.Need-returns
 returns c = added-over _ (λ g h. omega (arith, few-most _ _ _ _ g))
 
-port-items-requires : tie.Need-port-items-requires
-port-items-requires c κs = search needs
-
 add-add-head : tie.Need-add-add-head
 add-add-head c = let h = port-most _ (c .port-items .ensures) in omega (arith, h)
-
-add-head-requires : tie.Need-add-head-requires
-add-head-requires c κs = search needs
-
-add-labels-requires : tie.Need-add-labels-requires
-add-labels-requires c κs = search needs
-
-add-port-requires : tie.Need-add-port-requires
-add-port-requires c κs = search needs
 
 returns-2 : tie.Need-returns-2
 returns-2 c =
@@ -34,9 +22,9 @@ add-name-spec =
     tie.close
     (tie.spec
     returns
-    port-items-requires
+    (λ c κs. search needs)
     add-add-head
-    add-head-requires
-    add-labels-requires
-    add-port-requires
+    (λ c κs. search needs)
+    (λ c κs. search needs)
+    (λ c κs. search needs)
     returns-2)

@@ -5,33 +5,12 @@ use Rattle.rules.specs.Bytes.{bigEndian, concat}
 use Rattle.rules.specs.Head.{headBytes, majorOf, shortest, width}
 use Rattle.components.specs.Content.{schemeOf, authorityOf}
 use Rattle.rules.proofs.Standing.{none-lie}
-use Rattle.writer.specs.Items.{openingItems}
-use Rattle.writer.proofs.Laws.{added-as, added-then}
-use Rattle.writer.proofs.Items.{opening-may, opening-each}
+use Rattle.writer.specs.AddedItems.{openingItems}
+use Rattle.writer.proofs.Added.{added-as, added-then}
+use Rattle.writer.proofs.AddedItems.{opening-may, opening-each}
 use borrow.Author.Needs.{needs}
 use Rattle.writer.proofs.add_opening.Statement.{statement}
 use Rattle.writer.proofs.add_opening.Tie as tie
-
-enum-known-opening : tie.Need-enum-known-opening
-enum-known-opening c = search needs
-
-add-discard-requires : tie.Need-add-discard-requires
-add-discard-requires c κs = search needs
-
-enum-told : tie.Need-enum-told
-enum-told c = search needs
-
-add-head-requires : tie.Need-add-head-requires
-add-head-requires c κs = search needs
-
-enum-known-opening-2 : tie.Need-enum-known-opening-2
-enum-known-opening-2 c = search needs
-
-add-scheme-requires : tie.Need-add-scheme-requires
-add-scheme-requires c κs = search needs
-
-add-authority-requires : tie.Need-add-authority-requires
-add-authority-requires c κs = search needs
 
 returns : tie.Need-returns
 unfolding openingItems
@@ -55,13 +34,13 @@ pub add-opening-spec : {M : Type 1} → statement M
 add-opening-spec =
     tie.close
     (tie.spec
-    enum-known-opening
-    add-discard-requires
-    enum-told
-    add-head-requires
-    enum-known-opening-2
-    add-scheme-requires
-    add-authority-requires
+    (λ c. search needs)
+    (λ c κs. search needs)
+    (λ c. search needs)
+    (λ c κs. search needs)
+    (λ c. search needs)
+    (λ c κs. search needs)
+    (λ c κs. search needs)
     returns
     returns-2
     returns-3)

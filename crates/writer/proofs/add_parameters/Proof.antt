@@ -7,9 +7,9 @@ use Rattle.rules.specs.Views.{nowhere}
 use Rattle.cbor.specs.Heads.{spanIs}
 use Rattle.components.specs.Layout.{spanLaid}
 use Rattle.components.specs.Content.{spansOf}
-use Rattle.writer.proofs.Laws.{rest-whole}
-use Rattle.writer.proofs.Items.{length-spansOf, drop-spansOf}
-use Rattle.writer.proofs.Texts.{TextsLeft, texts-next, texts-end}
+use Rattle.writer.proofs.Added.{rest-whole}
+use Rattle.writer.proofs.AddedItems.{length-spansOf, drop-spansOf}
+use Rattle.writer.proofs.AddedTexts.{TextsLeft, texts-next, texts-end}
 use Rattle.writer.proofs.add_parameters.Statement.{statement}
 use Rattle.writer.proofs.add_parameters.Tie as tie
 

@@ -2,17 +2,14 @@
 use native.Mathlib.Omega.{arith}
 use denote.Ref.{now}
 use Rattle.cbor.specs.Heads.{spanIs}
-use Rattle.writer.proofs.Laws.{added-wrote, added-over}
-use Rattle.writer.proofs.Items.{lies, lying, length-taken}
+use Rattle.writer.proofs.Added.{added-wrote, added-over}
+use Rattle.writer.proofs.AddedItems.{lies, lying, length-taken}
 use borrow.Author.Needs.{needs}
 use Rattle.writer.proofs.add_part.Statement.{statement}
 use Rattle.writer.proofs.add_part.Tie as tie
 
 returns : tie.Need-returns
 returns c = added-over _ (λ g h. omega (arith, lying _ _ g))
-
-sub-if2 : tie.Need-sub-if2
-sub-if2 c = search needs
 
 returns-2 : tie.Need-returns-2
 returns-2 c = added-over _ (λ g h. omega (arith, lying _ _ g))
@@ -23,9 +20,6 @@ returns-3 c = added-over _ (λ g h. omega (arith, length-taken _ _ g))
 returns-4 : tie.Need-returns-4
 returns-4 c = added-over _ (λ g h. omega (arith, length-taken _ _ g))
 
-put-part-requires : tie.Need-put-part-requires
-put-part-requires c κs = search needs
-
 returns-5 : tie.Need-returns-5
 returns-5 c =
     let a = c .before .before .before .before .before .before .before .before .before .before .before .before .args in
@@ -34,4 +28,4 @@ returns-5 c =
 
 pub add-part-spec : {M : Type 1} → statement M
 add-part-spec =
-    tie.close (tie.spec returns sub-if2 returns-2 returns-3 returns-4 put-part-requires returns-5)
+    tie.close (tie.spec returns (λ c. search needs) returns-2 returns-3 returns-4 (λ c κs. search needs) returns-5)

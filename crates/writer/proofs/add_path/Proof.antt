@@ -3,30 +3,15 @@ use native.Mathlib.Omega.{arith}
 use mathlib.Core.Path.{refl}
 use Rattle.rules.specs.Encode.{orNull}
 use Rattle.rules.proofs.Standing.{none-lie}
-use Rattle.writer.proofs.Laws.{added-over, added-as, added-then}
-use Rattle.writer.proofs.Items.{few-most, few, texts-said}
+use Rattle.writer.proofs.Added.{added-over, added-as, added-then}
+use Rattle.writer.proofs.AddedItems.{few-most, few, texts-said}
 use borrow.Author.Needs.{needs}
 use Rattle.writer.proofs.add_path.Statement.{statement}
 use Rattle.writer.proofs.add_path.Tie as tie
 
-enum-told : tie.Need-enum-told
-enum-told c = search needs
-
-add-null-requires : tie.Need-add-null-requires
-add-null-requires c κs = search needs
-
-enum-known-path : tie.Need-enum-known-path
-enum-known-path c = search needs
-
 returns : tie.Need-returns
 unfolding orNull
 returns c = rw (c .before .before .path .given .1) (added-over _ (λ g h. omega (arith, c .if1 .taken, few-most _ _ _ _ g)))
-
-add-head-requires : tie.Need-add-head-requires
-add-head-requires c κs = search needs
-
-add-segments-requires : tie.Need-add-segments-requires
-add-segments-requires c κs = search needs
 
 returns-2 : tie.Need-returns-2
 unfolding orNull
@@ -42,11 +27,11 @@ pub add-path-spec : {M : Type 1} → statement M
 add-path-spec =
     tie.close
     (tie.spec
-    enum-told
-    add-null-requires
-    enum-known-path
+    (λ c. search needs)
+    (λ c κs. search needs)
+    (λ c. search needs)
     returns
-    add-head-requires
-    add-segments-requires
+    (λ c κs. search needs)
+    (λ c κs. search needs)
     returns-2
     returns-3)

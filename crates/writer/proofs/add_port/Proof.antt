@@ -1,20 +1,11 @@
 -- `writer::add_port` meets its contract.
 use Rattle.rules.specs.Bytes.{concat}
 use Rattle.rules.specs.Encode.{portItems}
-use Rattle.writer.proofs.Laws.{added-none, added-bytes}
-use Rattle.writer.proofs.Items.{one-item}
+use Rattle.writer.proofs.Added.{added-none, added-bytes}
+use Rattle.writer.proofs.AddedItems.{one-item}
 use borrow.Author.Needs.{needs}
 use Rattle.writer.proofs.add_port.Statement.{statement}
 use Rattle.writer.proofs.add_port.Tie as tie
-
-enum-told : tie.Need-enum-told
-enum-told c = search needs
-
-enum-known-port : tie.Need-enum-known-port
-enum-known-port c = search needs
-
-add-head-requires : tie.Need-add-head-requires
-add-head-requires c κs = search needs
 
 returns : tie.Need-returns
 unfolding portItems concat
@@ -25,4 +16,4 @@ unfolding portItems
 returns-2 c = rw (c .before .before .before .port .given .1) (added-bytes (one-item _) (c .add-head .ensures))
 
 pub add-port-spec : {M : Type 1} → statement M
-add-port-spec = tie.close (tie.spec enum-told enum-known-port add-head-requires returns returns-2)
+add-port-spec = tie.close (tie.spec (λ c. search needs) (λ c. search needs) (λ c κs. search needs) returns returns-2)

@@ -3,18 +3,12 @@ use native.Mathlib.Omega.{arith}
 use denote.Ref.{now}
 use Rattle.rules.specs.Encode.{encode}
 use Rattle.components.specs.Content.{componentsOf}
-use Rattle.writer.specs.Items.{saidBy, tailOf}
-use Rattle.writer.proofs.Laws.{added-as, added-then}
-use Rattle.writer.proofs.Items.{opening-most, tail-most, encode-said, all-may, each-may}
+use Rattle.writer.specs.AddedItems.{saidBy, tailOf}
+use Rattle.writer.proofs.Added.{added-as, added-then}
+use Rattle.writer.proofs.AddedItems.{opening-most, tail-most, encode-said, all-may, each-may}
 use borrow.Author.Needs.{needs}
 use Rattle.writer.proofs.add_reference.Statement.{statement}
 use Rattle.writer.proofs.add_reference.Tie as tie
-
-further-items-requires : tie.Need-further-items-requires
-further-items-requires c κs = search needs
-
-opening-items-requires : tie.Need-opening-items-requires
-opening-items-requires c κs = search needs
 
 add-add-head : tie.Need-add-add-head
 add-add-head c =
@@ -22,12 +16,6 @@ add-add-head c =
     let lent = now (a .lent) in
     let r = saidBy lent (a .c) in
     omega (arith, c .opening-items .ensures lent (a .c .labels), c .before .before .further-items .ensures lent (a .c .segments) (a .c .parameters), opening-most (r .opening) (c .before .before .further-items .result), tail-most (r .path) (r .query) (r .fragment))
-
-add-head-requires : tie.Need-add-head-requires
-add-head-requires c κs = search needs
-
-add-opening-requires : tie.Need-add-opening-requires
-add-opening-requires c κs = search needs
 
 add-further-requires : tie.Need-add-further-requires
 add-further-requires c κs = c .before .before .before .before .before .before .further-items .ensures _ _ _
@@ -47,10 +35,10 @@ pub add-reference-spec : {M : Type 1} → statement M
 add-reference-spec =
     tie.close
     (tie.spec
-    further-items-requires
-    opening-items-requires
+    (λ c κs. search needs)
+    (λ c κs. search needs)
     add-add-head
-    add-head-requires
-    add-opening-requires
+    (λ c κs. search needs)
+    (λ c κs. search needs)
     add-further-requires
     returns)

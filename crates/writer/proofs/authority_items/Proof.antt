@@ -1,20 +1,11 @@
 -- `writer::authority_items` meets its contract.
 use mathlib.Core.Path.{refl, sym, ap}
-use Rattle.writer.proofs.Items.{no-authority, null-authority}
-use Rattle.writer.specs.Items.{authorityItems}
+use Rattle.writer.proofs.AddedItems.{no-authority, null-authority}
+use Rattle.writer.specs.AddedItems.{authorityItems}
 use lib.ListN.{length}
 use borrow.Author.Needs.{needs}
 use Rattle.writer.proofs.authority_items.Statement.{statement}
 use Rattle.writer.proofs.authority_items.Tie as tie
-
-enum-told : tie.Need-enum-told
-enum-told c = search needs
-
-enum-told-2 : tie.Need-enum-told-2
-enum-told-2 c = search needs
-
-enum-told-3 : tie.Need-enum-told-3
-enum-told-3 c = search needs
 
 returns : tie.Need-returns
 returns c = λ lent labels. rw (c .before .enum-told .given .1) (sym (ap length (no-authority _ (c .if1 .taken))))
@@ -32,4 +23,4 @@ returns-4 c = λ lent labels. rw (c .enum-told3 .given .1) refl
 
 pub authority-items-spec : {M : Type 1} → statement M
 authority-items-spec =
-    tie.close (tie.spec enum-told enum-told-2 enum-told-3 returns returns-2 returns-3 returns-4)
+    tie.close (tie.spec (λ c. search needs) (λ c. search needs) (λ c. search needs) returns returns-2 returns-3 returns-4)

@@ -1,5 +1,5 @@
 -- `writer::discard_items` meets its contract.
-use Rattle.writer.proofs.Items.{discard-further, discard-some, discard-none}
+use Rattle.writer.proofs.AddedItems.{discard-further, discard-some, discard-none}
 use native.Mathlib.Omega.{arith}
 use Rattle.writer.proofs.discard_items.Statement.{statement}
 use Rattle.writer.proofs.discard_items.Tie as tie

@@ -1,31 +1,16 @@
 -- `writer::opening_items` meets its contract.
 use native.Mathlib.Omega.{arith}
 use mathlib.Core.Path.{refl}
-use Rattle.writer.proofs.Items.{authority-most}
+use Rattle.writer.proofs.AddedItems.{authority-most}
 use mathlib.Core.List.{[]}
 use mathlib.Core.Option.{Option·map}
 use Rattle.rules.specs.Model.{mapAuthority}
 use Rattle.rules.specs.Reader.{taken}
 use Rattle.components.specs.Content.{authorityOf}
-use Rattle.writer.specs.Items.{openingItems}
+use Rattle.writer.specs.AddedItems.{openingItems}
 use borrow.Author.Needs.{needs}
 use Rattle.writer.proofs.opening_items.Statement.{statement}
 use Rattle.writer.proofs.opening_items.Tie as tie
-
-enum-known-opening : tie.Need-enum-known-opening
-enum-known-opening c = search needs
-
-discard-items-requires : tie.Need-discard-items-requires
-discard-items-requires c κs = search needs
-
-enum-told : tie.Need-enum-told
-enum-told c = search needs
-
-enum-known-opening-2 : tie.Need-enum-known-opening-2
-enum-known-opening-2 c = search needs
-
-authority-items-requires : tie.Need-authority-items-requires
-authority-items-requires c κs = search needs
 
 add-result : tie.Need-add-result
 add-result c =
@@ -49,11 +34,11 @@ pub opening-items-spec : {M : Type 1} → statement M
 opening-items-spec =
     tie.close
     (tie.spec
-    enum-known-opening
-    discard-items-requires
-    enum-told
-    enum-known-opening-2
-    authority-items-requires
+    (λ c. search needs)
+    (λ c κs. search needs)
+    (λ c. search needs)
+    (λ c. search needs)
+    (λ c κs. search needs)
     add-result
     returns
     returns-2

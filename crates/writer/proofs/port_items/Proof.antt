@@ -5,12 +5,6 @@ use borrow.Author.Needs.{needs}
 use Rattle.writer.proofs.port_items.Statement.{statement}
 use Rattle.writer.proofs.port_items.Tie as tie
 
-enum-told : tie.Need-enum-told
-enum-told c = search needs
-
-enum-told-2 : tie.Need-enum-told-2
-enum-told-2 c = search needs
-
 returns : tie.Need-returns
 unfolding portItems
 returns c = rw (c .enum-told .given .1) refl
@@ -20,4 +14,4 @@ unfolding portItems
 returns-2 c = rw (c .enum-told2 .given .1) refl
 
 pub port-items-spec : {M : Type 1} → statement M
-port-items-spec = tie.close (tie.spec enum-told enum-told-2 returns returns-2)
+port-items-spec = tie.close (tie.spec (λ c. search needs) (λ c. search needs) returns returns-2)

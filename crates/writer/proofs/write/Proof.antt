@@ -7,19 +7,13 @@ use lib.Seq.{length-take-le}
 use Rattle.rules.specs.Model.{limits}
 use Rattle.rules.specs.Reader.{read}
 use Rattle.rules.specs.Calls.{Ruling, write, outcome, after}
-use Rattle.reader.specs.Code.{answerIs}
+use Rattle.reader.specs.Answers.{answerIs}
 use Rattle.components.specs.Content.{componentsOf}
-use Rattle.outcomes.proofs.Laws.{right-refused}
+use Rattle.outcomes.proofs.Answers.{right-refused}
 use Rattle.writer.proofs.Rulings.{ruled-refused, ruled-written, ruled-over, made, made-size}
 use borrow.Author.Needs.{needs}
 use Rattle.writer.proofs.write.Statement.{statement}
 use Rattle.writer.proofs.write.Tie as tie
-
-add-reference-requires : tie.Need-add-reference-requires
-add-reference-requires c κs = search needs
-
-refused-requires : tie.Need-refused-requires
-refused-requires c κs = search needs
 
 returns : tie.Need-returns
 returns c =
@@ -34,21 +28,6 @@ array-share-prefix-made c = omega (arith, c .if1 .left, made-size _ _ refl (omeg
 slice-aggregate-encoding : tie.Need-slice-aggregate-encoding
 slice-aggregate-encoding c = sym (length-take-le _ _ (omega (arith, made-size _ _ refl (omega arith) (c .before .before .add-reference .ensures))))
 
-read-requires : tie.Need-read-requires
-read-requires c κs = search needs
-
-enum-known-k : tie.Need-enum-known-k
-enum-known-k c = search needs
-
-refused-requires-2 : tie.Need-refused-requires-2
-refused-requires-2 c κs = search needs
-
-enum-told : tie.Need-enum-told
-enum-told c = search needs
-
-copied-requires : tie.Need-copied-requires
-copied-requires c κs = search needs
-
 returns-2 : tie.Need-returns-2
 returns-2 c =
     let a = c .before .before .before .before .before .before .before .before .before .before .before .args in
@@ -58,9 +37,6 @@ returns-2 c =
     let e = ap (read limits) (sym (m .1)) ∙ sym (c .before .before .before .before .read .ensures) ∙ ap answerIs (c .before .before .k .given .1) in
     let u = right-refused _ (ruled-refused (now (a .lent)) (componentsOf (a .c)) _ _ (p .good (omega (arith, h))) e) in
     (c .refused2 .ensures ∙ u .answered, u .holds)
-
-same-length : tie.Need-same-length
-same-length c = search needs
 
 returns-3 : tie.Need-returns-3
 returns-3 c =
@@ -78,16 +54,16 @@ pub write-spec : {M : Type 1} → statement M
 write-spec =
     tie.close
     (tie.spec
-    add-reference-requires
-    refused-requires
+    (λ c κs. search needs)
+    (λ c κs. search needs)
     returns
     array-share-prefix-made
     slice-aggregate-encoding
-    read-requires
-    enum-known-k
-    refused-requires-2
-    enum-told
-    copied-requires
+    (λ c κs. search needs)
+    (λ c. search needs)
+    (λ c κs. search needs)
+    (λ c. search needs)
+    (λ c κs. search needs)
     returns-2
-    same-length
+    (λ c. search needs)
     returns-3)

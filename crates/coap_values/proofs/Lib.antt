@@ -1,0 +1,2 @@
+-- The laws of the values.
+pub mod Values

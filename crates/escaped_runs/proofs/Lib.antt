@@ -1,3 +1,0 @@
--- The laws of texts in a row that callers use, and the laws of the walk.
-pub mod Laws
-mod Walk

@@ -1,3 +1,0 @@
--- The laws of coded options that callers use, and the laws of the walk.
-pub mod Laws
-mod Walk

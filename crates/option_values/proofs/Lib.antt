@@ -1,2 +1,0 @@
--- The laws of the values.
-pub mod Laws

@@ -1,0 +1,2 @@
+mod ResultParts
+mod Resolved

@@ -1,0 +1,2 @@
+-- Laws that the proof of `same_at` cites.
+pub mod SameBytes
