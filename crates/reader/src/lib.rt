@@ -636,7 +636,7 @@ fn name_body(s: &[u8], n: u64, next: usize) -> First
     requires { ⌜ next ≤ length (now s) ⌝ }
     ensures { λ r. ⌜ ((at count : ℕ) → firstIs (now (s .entry)) at count r ≡ R.openingBody (now (s .entry)) at count (record { kind = Text; value = n; next = next }) Text) ⌝ }
 {
-    match texts::text_body(s, next, n, Sort::SchemeName) {
+    match texts::scheme_body(s, next, n) {
         Step::Refused(k) => First::Refused(k),
         Step::Next(end) => First::Scheme {
             scheme: SchemeAt::Name {

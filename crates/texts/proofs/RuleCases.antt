@@ -6,18 +6,20 @@ use mathlib.Core.Bool.{Bool, true, false, not, _&&_, _||_, and-assoc}
 use mathlib.Core.List.{List, [], _∷_}
 use lib.ListN.{length, getD, length-append}
 use lib.Dec.{leb}
-use borrow.Author.Tests.{le-leb, lt-leb, eq-eqb, ne-eqb}
-use Rattle.rules.specs.Bytes.{Bytes, part, within, all, any, join, dot}
-use Rattle.rules.specs.Result.{refused, ok, CUT, LIMIT, TEXT, RULE}
+use borrow.Author.Tests.{le-leb, lt-leb, leb-true, leb-false, eq-eqb, ne-eqb}
+use Rattle.rules.specs.Bytes.{Bytes, part, within, all, any, same, join, dot}
+use Rattle.rules.specs.Result.{refused, ok, need, _>>=_, _>>_, CUT, LIMIT, TEXT, RULE}
 use Rattle.rules.specs.Utf8.{utf8}
 use Rattle.rules.specs.Head.{Head}
-use Rattle.rules.specs.Rules.{Sort, lower, digit, startsLower, octet, looksIPv4, nameRule}
+use Rattle.rules.specs.Rules.{Sort, schemes, schemeByte, schemeRule, schemeName, lower, digit, startsLower, octet, looksIPv4, nameRule}
 use Rattle.rules.specs.Reader.{readContent, textBody, contents}
 use Rattle.rules.proofs.Tools.{by-test, length-part, part-cons}
-use Rattle.rules.proofs.Steps.{need-yes, need-no, bind-ok, bind-refused}
-use Rattle.rules.proofs.Texts.{length-contents}
+use Rattle.rules.proofs.Steps.{need-yes, need-no, bind-ok, bind-refused, Ok, ok-any, ok-map, ok-need}
+use Rattle.rules.proofs.Texts.{ok-content, length-contents}
 use Rattle.rules.proofs.RowWalk.{First}
-use Rattle.texts.specs.Answers.{dottedLength}
+use Rattle.schemes.specs.Schemes.{knownName}
+use Rattle.texts.specs.Answers.{schemeForm, sortIs, dottedLength}
+use Rattle.texts.specs.declared.Sort.the-variants as SortV
 
 -- ---- the table of schemes
 
@@ -55,6 +57,42 @@ module _ (t : Sort) (bs : Bytes) (at : ℕ) (h : Head) where
         pub text-kept : t .rule (part bs (h .next) (h .value)) ≡ true → ok (h .next + h .value) ≡ textBody t bs at h
         unfolding textBody
         text-kept r = need-yes _ _ _ _ r ∙ need-yes _ _ _ _ u ∙ bind-ok _ _ _ content ∙ need-yes _ _ _ _ fits
+
+-- the content of an accepted text lies inside
+pub text-inside : (t : Sort) (bs : Bytes) (at : ℕ) (h : Head) → Ok (λ next. h .next + h .value ≤ length bs) (textBody t bs at h)
+unfolding textBody
+text-inside t bs at h = ok-need _ _ _ _ (λ w. ok-content _ _ _ _ (λ l. ok-map (ok-any _) (λ _ _. l)))
+
+-- ---- the text of a scheme: its form, and then the names of the table
+
+rule-split : (t : Bytes) → schemeRule t ≡ (schemeForm t && not (knownName t))
+unfolding schemeRule schemeForm knownName
+rule-split t =
+    by-test (λ x. (x && (all schemeByte t && all (λ e. not (same t (e .name))) schemes)) ≡ ((x && all schemeByte t) && not (any (λ e. same t (e .name)) schemes)))
+    (startsLower t) (λ _. ap (λ y. all schemeByte t && y) (sym (not-any _ _))) (λ _. refl)
+
+module _ (bs : Bytes) (at : ℕ) (h : Head) where
+  abbrev named : Bool
+  named = knownName (part bs (h .next) (h .value))
+
+  -- the names are judged after all else
+  pub scheme-then : textBody schemeName bs at h ≡ (textBody (sortIs SortV.SchemeForm) bs at h >>= (λ next. need (not named) RULE at >> ok next))
+  scheme-then =
+      let t = part bs (h .next) (h .value) in
+      let P = textBody schemeName bs at h ≡ (textBody (sortIs SortV.SchemeForm) bs at h >>= (λ next. need (not named) RULE at >> ok next)) in
+      let n = schemeName in
+      let f = sortIs SortV.SchemeForm in
+      by-test (λ _. P) (within 1 16 (h .value))
+      (λ w. by-test (λ _. P) (leb (h .next + h .value) (length bs))
+      (λ l. let i = leb-true _ _ l in by-test (λ _. P) (utf8 t)
+      (λ u. by-test (λ _. P) (schemeForm t)
+      (λ r. by-test (λ _. P) named
+      (λ k. sym (text-against n bs at h w i u (rule-split t ∙ rw (r, k))) ∙ need-no _ _ _ _ (ap not k) ∙ bind-ok _ _ _ (text-kept f bs at h w i u r))
+      (λ k. sym (text-kept n bs at h w i u (rule-split t ∙ rw (r, k))) ∙ need-yes _ _ _ _ (ap not k) ∙ bind-ok _ _ _ (text-kept f bs at h w i u r)))
+      (λ r. sym (text-against n bs at h w i u (rule-split t ∙ rw r)) ∙ bind-refused _ _ _ _ (text-against f bs at h w i u r)))
+      (λ u. sym (text-wrong n bs at h w i u) ∙ bind-refused _ _ _ _ (text-wrong f bs at h w i u)))
+      (λ l. let o = leb-false _ _ l in sym (text-cut n bs at h w o) ∙ bind-refused _ _ _ _ (text-cut f bs at h w o)))
+      (λ w. sym (text-limit n bs at h w) ∙ bind-refused _ _ _ _ (text-limit f bs at h w))
 
 -- ---- parts of a few bytes
 

@@ -5,10 +5,10 @@ ghost use Prim.Native.Nat.{ℕ, _+_, _≤_};
 ghost use lib.ListN.{length};
 ghost use Rattle.rules.specs.Bytes.{part, within, all};
 ghost use Rattle.rules.specs.Head.{Kind};
-ghost use Rattle.rules.specs.Rules.{schemeByte, startsLower, schemeRule, labelByte, labelRule, segmentRule, octet, looksIPv4, nameRule};
+ghost use Rattle.rules.specs.Rules.{schemeByte, startsLower, schemeName, labelByte, labelRule, segmentRule, octet, looksIPv4, nameRule};
 ghost use Rattle.rules.specs.Reader.{textBody, contents};
 ghost use Rattle.rules.specs.Standing.{RowAt};
-ghost use Rattle.texts.specs.Answers.{sortIs, stepIs, dottedLength};
+ghost use Rattle.texts.specs.Answers.{schemeForm, sortIs, stepIs, dottedLength};
 use numbers::CUT;
 use numbers::LABEL_BYTES;
 use numbers::LIMIT;
@@ -23,9 +23,10 @@ use utf8::inside;
 // The most bytes that all labels have, each with a dot after it.
 const DOTTED_BYTES: usize = NAME_BYTES + 1;
 
-// What a text is, which settles its least and greatest length and its rule.
+// What a text is, which settles its least and greatest length and its rule. That a scheme is none of the names of the table is tested by
+// `scheme_body`, so that no other text pays for it.
 pub enum Sort {
-    SchemeName,
+    SchemeForm,
     Label,
     Segment,
     Parameter,
@@ -83,15 +84,13 @@ fn starts_lower(s: &[u8], from: usize, n: usize) -> bool
     inside(s[from], 0x61, 0x7a)
 }
 
-// A scheme given as text: a lower-case letter first, and no name of a scheme that has a number.
-fn scheme_rule(s: &[u8], from: usize, n: usize) -> bool
+// The bytes of a scheme given as text: a lower-case letter first.
+fn scheme_form(s: &[u8], from: usize, n: usize) -> bool
     requires { ⌜ from + n ≤ length (now s) ⌝ }
-    ensures { λ r. ⌜ r ≡ schemeRule (part (now (s .entry)) from n) ⌝ }
+    ensures { λ r. ⌜ r ≡ schemeForm (part (now (s .entry)) from n) ⌝ }
 {
     if starts_lower(s, from, n) {
-        if scheme_bytes(s, from, n) {
-            return !schemes::is_name(s, from, n);
-        }
+        return scheme_bytes(s, from, n);
     }
     false
 }
@@ -139,7 +138,7 @@ fn keeps_rule(s: &[u8], from: usize, n: usize, sort: Sort) -> bool
     ensures { λ r. ⌜ r ≡ sortIs sort .rule (part (now (s .entry)) from n) ⌝ }
 {
     match sort {
-        Sort::SchemeName => scheme_rule(s, from, n),
+        Sort::SchemeForm => scheme_form(s, from, n),
         Sort::Label => label_rule(s, from, n),
         Sort::Segment => segment_rule(s, from, n),
         Sort::Parameter => true,
@@ -152,7 +151,7 @@ fn least_of(sort: Sort) -> u64
     ensures { λ r. ⌜ r ≡ sortIs sort .low ⌝ }
 {
     match sort {
-        Sort::SchemeName => 1,
+        Sort::SchemeForm => 1,
         Sort::Label => 1,
         Sort::Segment => 0,
         Sort::Parameter => 0,
@@ -165,7 +164,7 @@ fn most_of(sort: Sort) -> u64
     ensures { λ r. ⌜ r ≡ sortIs sort .high ⌝ }
 {
     match sort {
-        Sort::SchemeName => SCHEME_BYTES,
+        Sort::SchemeForm => SCHEME_BYTES,
         Sort::Label => LABEL_BYTES,
         Sort::Segment => TEXT_BYTES,
         Sort::Parameter => TEXT_BYTES,
@@ -202,6 +201,22 @@ pub fn text_body(s: &[u8], next: usize, n: u64, sort: Sort) -> Step
         return Step::Refused(RULE);
     }
     Step::Next(next + count)
+}
+
+// The text of a scheme, of n bytes, whose head has been read and ends at a position: none of the names of the table.
+pub fn scheme_body(s: &[u8], next: usize, n: u64) -> Step
+    requires { ⌜ next ≤ length (now s) ⌝ }
+    ensures { λ r. ⌜ ((k : Kind) (at : ℕ) → stepIs at r ≡ textBody schemeName (now (s .entry)) at (record { kind = k; value = n; next = next })) ⌝ }
+{
+    match text_body(s, next, n, Sort::SchemeForm) {
+        Step::Refused(k) => Step::Refused(k),
+        Step::Next(end) => {
+            if schemes::is_name(s, next, n as usize) {
+                return Step::Refused(RULE);
+            }
+            Step::Next(end)
+        }
+    }
 }
 
 // The length of labels that were accepted, each with a dot after it.

@@ -16,6 +16,7 @@ ghost use Rattle.cbor_rows.specs.Rows.{nthAt};
 ghost use Rattle.views.specs.Shown.{PartOf, PieceOf, viewIs, pieceIs};
 use cbor::Span;
 use cbor::span_at;
+use numbers::DONE;
 use numbers::NONE;
 use reader::Answer;
 use reader::AuthorityAt;
@@ -94,7 +95,7 @@ pub fn segment_number(link: &[u8], n: usize) -> u8
     ensures { λ r. ⌜ r ≡ numberOf (segmentView limits (now (link .entry)) n) ⌝ }
 {
     match nth_segment(link, n) {
-        View::At(_) => 0,
+        View::At(_) => DONE,
         View::Refused(k, _) => k,
     }
 }
@@ -184,8 +185,8 @@ pub fn authority_number(base: &[u8], reference: &[u8]) -> u8
     ensures { λ r. ⌜ r ≡ numberOf (authorityView limits (now (base .entry)) (now (reference .entry))) ⌝ }
 {
     match chosen_authority(base, reference) {
-        Piece::OfReference(_) => 0,
-        Piece::OfBase(_) => 0,
+        Piece::OfReference(_) => DONE,
+        Piece::OfBase(_) => DONE,
         Piece::Refused(k, _) => k,
     }
 }

@@ -8,16 +8,16 @@ use borrow.Author.Needs.{needs}
 use Rattle.reader.proofs.name_body.Statement.{statement}
 use Rattle.reader.proofs.name_body.Tie as tie
 
-text-body-requires : tie.Need-text-body-requires
-text-body-requires c κs = c .before .pre
+scheme-body-requires : tie.Need-scheme-body-requires
+scheme-body-requires c κs = c .before .pre
 
 returns : tie.Need-returns
 unfolding openingBody
-returns c = λ at count. bind-refused _ _ _ _ (ap (stepIs at) (sym (c .before .k .given .1)) ∙ c .before .before .before .text-body .ensures Text at)
+returns c = λ at count. bind-refused _ _ _ _ (ap (stepIs at) (sym (c .before .k .given .1)) ∙ c .before .before .before .scheme-body .ensures Text at)
 
 returns-2 : tie.Need-returns-2
 unfolding openingBody
-returns-2 c = λ at count. bind-ok _ _ _ (ap (stepIs at) (sym (c .before .end .given .1)) ∙ c .before .before .before .text-body .ensures Text at)
+returns-2 c = λ at count. bind-ok _ _ _ (ap (stepIs at) (sym (c .before .end .given .1)) ∙ c .before .before .before .scheme-body .ensures Text at)
 
 pub name-body-spec : {M : Type 1} → statement M
-name-body-spec = tie.close (tie.spec text-body-requires (λ c. search needs) (λ c. search needs) returns returns-2)
+name-body-spec = tie.close (tie.spec scheme-body-requires (λ c. search needs) (λ c. search needs) returns returns-2)

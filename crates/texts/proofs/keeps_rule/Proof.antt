@@ -4,7 +4,7 @@ use Rattle.texts.proofs.keeps_rule.Statement.{statement}
 use Rattle.texts.proofs.keeps_rule.Tie as tie
 
 returns : tie.Need-returns
-returns c = simp (c .before .enum-told .given .1) (c .scheme-rule .ensures)
+returns c = simp (c .before .enum-told .given .1) (c .scheme-form .ensures)
 
 returns-2 : tie.Need-returns-2
 returns-2 c = simp (c .before .enum-told2 .given .1) (c .label-rule .ensures)
