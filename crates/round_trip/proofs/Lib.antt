@@ -1,1 +1,2 @@
 mod Rewriting
+mod Rereading

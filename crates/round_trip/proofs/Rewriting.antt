@@ -32,16 +32,21 @@ module _ (bs : Bytes) (r : Reading) (told : r ≡ readingLaid (readCall limits b
       go (refused n k) e = rw e (ap refuse (ap (λ (x : Writing.Reading). x .number) (call-refused limits bs n k e) ∙ sym number))
       go (ok f) e = absurd (h (number ∙ ap (λ (x : Writing.Reading). x .number) (sym (call-accepted limits bs f e))))
 
-  -- with 0, the components are written as the bytes again
+  -- with 0, the struct says the components of the rules
+  pub reading-said : Octets bs → r .number ≡ 0 → componentsOf (r .components) ≡ readCall limits bs .components
+  reading-said h z =
+      let a = accepted limits bs (sym number ∙ z) in
+      let call = ap (λ (x : Writing.Reading). x .components) (call-accepted limits bs (a .0) (a .1)) in
+      ap (λ (x : Reading). componentsOf (x .components)) told
+      ∙ ap (λ (c : Model.Components). componentsOf (componentsLaid c)) (sym call)
+      ∙ components-said _ (all-counted limits bs (a .0) (ok-at (stands limits bs h) (a .1)))
+      ∙ call
+
+  -- and these are written as the bytes again
   pub again-written : Octets bs → r .number ≡ 0 → writeCall limits (componentsOf (r .components)) bs ≡ again limits bs
   unfolding again _>>_
   again-written h z =
       let zero : readCall limits bs .number ≡ 0 = sym number ∙ z in
-      let a = accepted limits bs zero in
-      let call = ap (λ (x : Writing.Reading). x .components) (call-accepted limits bs (a .0) (a .1)) in
-      let said = components-said _ (all-counted limits bs (a .0) (ok-at (stands limits bs h) (a .1))) in
-      ap (λ (x : Reading). writeCall limits (componentsOf (x .components)) bs) told
-      ∙ ap (λ (c : Model.Components). writeCall limits (componentsOf (componentsLaid c)) bs) (sym call)
-      ∙ ap (λ (c : Model.Components). writeCall limits c bs) (said ∙ call)
+      ap (λ (c : Model.Components). writeCall limits c bs) (reading-said h z)
       ∙ read-write limits bs h zero
-      ∙ rw (a .1)
+      ∙ rw (accepted limits bs zero .1)

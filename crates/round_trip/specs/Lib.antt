@@ -1,2 +1,3 @@
--- What writing a reference that was read answers.
+-- What writing a reference that was read answers, and reading one that was written.
 pub mod Again
+pub mod Rereading
