@@ -105,7 +105,14 @@ fn input(random: &mut Random) -> Input {
             }
             Input::of(made)
         }
-        970..973 => Input::of_bytes(long_input(random)),
+        970..975 => {
+            let (mut made, after) = reference::after_port(random);
+            if random.chance(80) {
+                damage::damage_head_at(random, &mut made.encoded.bytes, after);
+            }
+            Input::of(made)
+        }
+        975..978 => Input::of_bytes(long_input(random)),
         _ => {
             let length = random.index(40);
             Input::of_bytes(random.bytes(length))

@@ -25,7 +25,9 @@ enum Part {
     Label,
     NinthLabel,
     Port,
-    /// A further item of an authority where neither a label nor a port may stand.
+    /// An item of an authority after its port.
+    AfterPort,
+    /// Another further item of an authority, where neither a label nor a port may stand.
     Further,
     Path,
     Segment,
@@ -89,6 +91,20 @@ impl<'a> Item<'a> {
             26 => 4,
             27 => 8,
             _ => 0,
+        }
+    }
+
+    /// What is wrong with its head, also where something else decides.
+    fn head_fault(&self) -> Option<Fault> {
+        let least = match self.width() {
+            0 => 0,
+            1 => 24,
+            width => 1 << (4 * width),
+        };
+        match self.number {
+            _ if self.info() >= 28 => Some(Fault::Reserved),
+            None => Some(Fault::HeadCut),
+            Some(number) => (number < least).then_some(Fault::NotShortest),
         }
     }
 
@@ -213,6 +229,7 @@ impl<'a> Walked<'a> {
                 (Part::Authority | Part::Label, Some(3)) => Part::Label,
                 (Part::Authority, _) => Part::Host,
                 (Part::Address | Part::Label, Some(0)) => Part::Port,
+                (Part::Port, _) => Part::AfterPort,
                 _ => Part::Further,
             };
             (_, rest) = self.item(part, rest)?;
@@ -319,6 +336,7 @@ fn every_fault_of_every_item() {
         (Label, &[Rule]),
         (NinthLabel, &[Range]),
         (Port, &[Range]),
+        (AfterPort, &[NoFirstByte, Kind]),
         (Further, &[NoFirstByte, Kind]),
         (Path, &[NoFirstByte, Kind, FinalNull, Range]),
         (Segment, &[NoFirstByte, Kind, Rule]),
@@ -330,7 +348,7 @@ fn every_fault_of_every_item() {
         wanted.extend(faults.iter().map(|&fault| (part, fault)));
         if !matches!(
             part,
-            Opening | AllDiscarded | NoScheme | Host | Further | End
+            Opening | AllDiscarded | NoScheme | Host | AfterPort | Further | End
         ) {
             wanted.extend(head.map(|fault| (part, fault)));
         }
@@ -339,6 +357,19 @@ fn every_fault_of_every_item() {
         }
     }
     met.has_all(wanted);
+}
+
+/// After a port an item is refused by its first byte, though its head is bad too. Only kinds are counted that some place allows.
+#[test]
+fn bad_heads_after_a_port() {
+    use Fault::*;
+    let inputs = inputs();
+    let met = Tally::of(walked(&inputs).filter_map(|walked| {
+        let (item, fault) = walked.fault()?;
+        let allowed = item.major()? <= 4;
+        (allowed && item.part == Part::AfterPort).then_some((fault, item.head_fault()?))
+    }));
+    met.has_all([Reserved, HeadCut, NotShortest].map(|head| (Kind, head)));
 }
 
 /// Sizes that are allowed, in inputs that are accepted, and sizes that are not, where the input is refused for them.

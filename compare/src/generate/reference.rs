@@ -76,19 +76,27 @@ fn texts_of(item: &mut Item) -> Vec<&mut Vec<u8>> {
 /// A reference whose authority has nine labels, and the place of the last one.
 pub fn nine_labels(random: &mut Random) -> (Made, usize) {
     let mut maker = Maker::brief(random);
-    let scheme = maker.scheme();
     let mut labels: Vec<_> = (0..9).map(|_| maker.label(true)).collect();
     if maker.random.chance(20) {
         labels[8] = maker.stranger();
     }
-    let path = maker.path();
-    let segments = segments_of(&path);
-    let mut items = vec![scheme, Item::Array(labels), path];
-    maker.leave_off(&mut items, 2);
-    let made = Made::of(items, segments);
-    // The heads of the outer array, of the scheme, of the authority and of eight labels come before it.
-    let ninth = made.encoded.heads[11];
-    (made, ninth)
+    maker.with_authority(labels)
+}
+
+/// A reference whose authority has an item after its port, and the place of that item.
+pub fn after_port(random: &mut Random) -> (Made, usize) {
+    let mut maker = Maker::brief(random);
+    let mut authority = match maker.random.below(4) {
+        0 => vec![maker.address(4)],
+        1 => vec![maker.address(16)],
+        _ => {
+            // With the port and the item after it, seven labels are the most that an authority has.
+            let count = maker.random.pick(&[1, 1, 2, 7]);
+            (0..count).map(|_| maker.label(true)).collect()
+        }
+    };
+    authority.extend([maker.port(), maker.stranger()]);
+    maker.with_authority(authority)
 }
 
 /// How many segments a path has.
@@ -227,6 +235,19 @@ impl<'r> Maker<'r> {
             items.truncate(1);
         }
         Made::of(items, segments)
+    }
+
+    /// A reference with this authority, and the place of the authority's last item. The items before that one hold no others.
+    fn with_authority(&mut self, authority: Vec<Item>) -> (Made, usize) {
+        // The heads of the outer array, of the scheme and of the authority come before those of its items.
+        let last = authority.len() + 2;
+        let path = self.path();
+        let segments = segments_of(&path);
+        let mut items = vec![self.scheme(), Item::Array(authority), path];
+        self.leave_off(&mut items, 2);
+        let made = Made::of(items, segments);
+        let place = made.encoded.heads[last];
+        (made, place)
     }
 
     /// Leaves off the nulls at the end and a lone 0, but for a slip.

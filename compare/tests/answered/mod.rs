@@ -4,7 +4,7 @@ use compare::generate::Generator;
 use compare::lines;
 use std::sync::LazyLock;
 
-pub const COUNT: usize = 100_000;
+pub const COUNT: usize = 200_000;
 
 pub static ANSWERED: LazyLock<Vec<(Vec<u8>, String)>> = LazyLock::new(|| {
     let answered = |request: Vec<u8>| {
