@@ -2,26 +2,23 @@
 use Prim.Native.Nat.{ℕ, _^_, _≤_, _<_}
 use native.Mathlib.Omega.{arith}
 use mathlib.Core.Path.{_≡_, refl, sym, ap, ap₂, _∙_}
-use mathlib.Core.Bool.{Bool, true, false}
 use mathlib.Core.List.{List}
 use lib.ListN.{length, take}
-use lib.Dec.{ltb}
-use borrow.Author.Tests.{ltb-false}
 use mir.Val.{Val}
 use denote.Laws.{Is}
 use denote.Enum.Declared as Enum
 use denote.Struct.Declared as Struct
-use Rattle.rules.specs.Bytes.{Bytes, Octets, all}
-use Rattle.rules.specs.Result.{Res, refused, ok, need, _>>_, LIMIT}
+use Rattle.rules.specs.Bytes.{Bytes, Octets}
 use Rattle.rules.specs.Model as Model
 use Rattle.rules.specs.Model.{limits, mapParts}
-use Rattle.rules.specs.Reader.{taken, Found, read}
+use Rattle.rules.specs.Reader.{taken}
 use Rattle.rules.specs.Encode.{encode}
 use Rattle.rules.specs.Valid.{If}
-use Rattle.rules.specs.Writing.{allTexts, SizedScheme, SizedOpening, Sized, counted, inside, placeless, written, readCall}
-use Rattle.rules.specs.Calls.{Ruling, refuse, write, ruling, Done, outcome, after, writeCall}
-use Rattle.rules.proofs.Tools.{cond-split, octets-part}
-use Rattle.rules.proofs.RefusalNumbers.{numbers}
+use Rattle.rules.specs.Writing.{SizedScheme, SizedOpening, Sized, readCall}
+use Rattle.rules.specs.Calls.{Ruling, write, Done, outcome, after, writeCall}
+use Rattle.rules.specs.Promises.{WriteAnswers, write-4-count, write-4-span, write-own, write-done}
+use Rattle.rules.proofs.Tools.{octets-part}
+use Rattle.rules.proofs.CallNumbers.{told-within, told-fits, write-answers}
 use Rattle.rules.proofs.Proved.{shown-enough, write-read-proved}
 use Rattle.cbor.specs.declared.Span.{Span}
 use Rattle.reader.specs.declared.Port.the-variants as PortV
@@ -71,42 +68,19 @@ components-sized c g = opening-sized (c .labels) (c .opening) (g .1 .1 .0)
 
 -- the length lies inside the room
 pub length-within : (u : Ruling) (n : ℕ) (d : Done) → d ≡ outcome u n → d .length ≤ n
+length-within u n d e = rw e (told-within u n)
+
+-- with 0 there are bytes to be written, and they fit
+done-written : (c : Model.Components) (lent : Bytes) (n : ℕ) → outcome (writeCall limits c lent) n .number ≡ 0
+    → (w : Bytes) × (writeCall limits c lent ≡ write w) × (length w ≤ n)
 unfolding outcome
-length-within (refuse k) n d e = rw e (omega arith)
-length-within (write w) n d e =
-    rw e (cond-split (λ (r : Done). r .length ≤ n) (ltb n (length w)) (λ t. omega arith) (λ t. ltb-false n (length w) t))
-
-module _ (c : Model.Components) (lent : Bytes) where
-  -- no refusal has the number 0
-  refusal-numbered : (k at : ℕ) → written limits c lent ≡ refused k at → 1 ≤ k
-  unfolding written need _>>_
-  refusal-numbered k at = go (counted limits c) (all (inside lent) (allTexts c)) (read limits bs) refl
-    where
-      bs : Bytes
-      bs = encode (mapParts (taken lent) c)
-
-      go : (x y : Bool) (r : Res Found) → read limits bs ≡ r
-          → (need x LIMIT 0 >> (need y LIMIT 0 >> (placeless r >> ok bs))) ≡ refused k at → 1 ≤ k
-      go false y r d e = let z : 4 ≡ k = cc in omega arith
-      go true false r d e = let z : 4 ≡ k = cc in omega arith
-      go true true (refused n j) d e = let z : n ≡ k = cc in omega (arith, numbers limits bs n j d .0)
-      go true true (ok f) d e = let z : _≡_ {A = ℕ} 0 1 = cc in absurd (omega arith)
-
-  -- so with 0 there are bytes to be written, and they fit
-  done-written : (n : ℕ) → outcome (writeCall limits c lent) n .number ≡ 0
-      → (w : Bytes) × (writeCall limits c lent ≡ write w) × (length w ≤ n)
-  unfolding writeCall outcome
-  done-written n = go (written limits c lent) refl
-    where
-      go : (r : Res Bytes) → written limits c lent ≡ r → outcome (ruling r) n .number ≡ 0
-          → (w : Bytes) × (ruling (written limits c lent) ≡ write w) × (length w ≤ n)
-      go (refused k at) d e = absurd (omega (arith, refusal-numbered k at d))
-      go (ok w) d e = (
-        w,
-        ap ruling d,
-        cond-split (λ (r : Done). r .number ≡ 0 → length w ≤ n) (ltb n (length w))
-            (λ t z. absurd (omega arith)) (λ t z. ltb-false n (length w) t) e,
-      )
+done-written c lent n = go _ (write-answers limits c lent .told)
+  where
+    go : (u : Ruling) → WriteAnswers limits c lent u → outcome u n .number ≡ 0 → (w : Bytes) × (u ≡ write w) × (length w ≤ n)
+    go _ (write-4-count _) e = absurd (omega (arith, e))
+    go _ (write-4-span _ _) e = absurd (omega (arith, e))
+    go _ (write-own _ _ h _) e = absurd (omega (arith, h .0, e))
+    go _ (write-done _ _ _) e = (encode (mapParts (taken lent) c), refl, told-fits (encode (mapParts (taken lent) c)) n e)
 
 -- ---- reading what was written
 

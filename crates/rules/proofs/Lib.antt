@@ -25,5 +25,7 @@ pub mod Resolving
 pub mod ResolvedAgain
 pub mod OptionsBack
 pub mod OptionsBound
+pub mod CallNumbers
+pub mod ViewNumbers
 pub mod Compute
 pub mod Proved

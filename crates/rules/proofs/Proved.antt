@@ -17,7 +17,7 @@ use Rattle.rules.specs.Resolve.{resolve}
 use Rattle.rules.specs.Text.{uriText}
 use Rattle.rules.specs.Options.{options, optionsFrom, readOptions}
 use Rattle.rules.specs.Calls.{Ruling, write, Done, outcome, after, textCall, resolveCall, optionsCall}
-use Rattle.rules.specs.Cases.{starred, unstarred, slips, refusals, requests, codings, addresses}
+use Rattle.rules.specs.Cases.{starred, unstarred, slips, steps, refusals, accepted, sizes, texts, escaped, requests, codings, addresses, segmentRows, authorityRows}
 use Rattle.rules.specs.Promises as P
 use Rattle.rules.specs.Promises.{done, shown, Writes, unfragmented}
 use Rattle.rules.proofs.Steps.{ok-at}
@@ -32,6 +32,8 @@ use Rattle.rules.proofs.Resolving.{nothing, resolve-nothing, resolve-em
 use Rattle.rules.proofs.ResolvedAgain.{encode-some, valid-unfragmented, valid-normal, read-nothing}
 use Rattle.rules.proofs.OptionsBack.{options-octets, options-read, IsOptions, is-options, ruling-ok, requested-read}
 use Rattle.rules.proofs.OptionsBound.{read-options-bound}
+use Rattle.rules.proofs.CallNumbers.{untouched, room-numbers, read-answers, resolve-answers, text-answers, options-answers, write-answers}
+use Rattle.rules.proofs.ViewNumbers.{segment-answers, authority-answers}
 use Rattle.rules.proofs.Compute.{computed}
 
 pub canonical-proved : P.Canonical
@@ -52,6 +54,23 @@ prefix-proved lim p q h size n k d e = prefix-refused lim p q h size n k d e
 
 pub tail-proved : P.Tail
 tail-proved lim p b q h size f e = prefix-accepted lim p b q h size f e
+
+-- ---- demand 1
+
+pub rooms-proved : P.Rooms
+rooms-proved u room = (untouched u room, room-numbers u (length room))
+
+pub call-numbers-proved : P.CallNumbers
+call-numbers-proved =
+    record {
+      reading = read-answers;
+      resolving = resolve-answers;
+      printing = text-answers;
+      requesting = options-answers;
+      writing = write-answers;
+      segments = segment-answers;
+      authorities = authority-answers;
+    }
 
 -- ---- what a call writes
 
@@ -168,5 +187,20 @@ unfolding computed starred
 starred-proved = refl
 
 pub examples-proved : P.Examples
-unfolding computed unstarred slips refusals requests codings addresses
-examples-proved = record { rows = refl; slipped = refl; order = refl; options = refl; codings = refl; ipv6 = refl }
+unfolding computed unstarred slips steps refusals accepted sizes texts escaped requests codings addresses segmentRows authorityRows
+examples-proved =
+    record {
+      rows = refl;
+      slipped = refl;
+      steps = refl;
+      order = refl;
+      accepted = refl;
+      sizes = refl;
+      texts = refl;
+      escaped = refl;
+      options = refl;
+      codings = refl;
+      ipv6 = refl;
+      segments = refl;
+      authorities = refl;
+    }

@@ -1,17 +1,20 @@
 -- RULES 11: the table of small cases, and the other worked examples.
-use Prim.Native.Nat.{ℕ, _+_}
+use Prim.Native.Nat.{ℕ, zero, suc}
 use Prim.Native.String.{String}
 use mathlib.Core.Path.{_≡_}
 use mathlib.Core.List.{List, [], _∷_, _++_, map}
 use mathlib.Core.Option.{Option, none, some}
 use lib.ListN.{replicate}
-use Rattle.rules.specs.Bytes.{Bytes, ascii, hex}
+use Rattle.rules.specs.Bytes.{Bytes, ascii, hex, concat}
 use Rattle.rules.specs.Result.{Res, refused, ok}
-use Rattle.rules.specs.Model.{limits}
+use Rattle.rules.specs.Model.{Span, limits}
 use Rattle.rules.specs.Reader.{Found, read}
+use Rattle.rules.specs.Meaning.{span}
+use Rattle.rules.specs.Text.{Class, Label, Segment, Parameter, Fragment, escape}
 use Rattle.rules.specs.Address.{ipv6Text}
 use Rattle.rules.specs.Options.{CoapOption, option, readOptions}
 use Rattle.rules.specs.Calls.{Ruling, refuse, write, resolveCall, textCall, optionsCall}
+use Rattle.rules.specs.Views.{segmentView, Piece, ofReference, ofBase, authorityView, segmentShown, pieceShown, numberOf}
 
 -- ---- rows
 
@@ -104,6 +107,21 @@ slips =
     ∷ gives "82 00 80" (hex "83 20 81 61 68 81 61 70") "coap://h/p"
     ∷ []
 
+-- what each item of a reference brings, against the same base
+unfoldable pub steps : List Row
+steps =
+    -- a fragment; a query; a segment more; a segment in place of one
+    gives "84 00 F6 F6 61 67" (hex "85 20 81 61 68 81 61 70 81 61 71 61 67") "coap://h/p?q#g"
+    ∷ gives "83 00 F6 81 61 72" (hex "84 20 81 61 68 81 61 70 81 61 72") "coap://h/p?r"
+    ∷ gives "82 00 81 61 73" (hex "83 20 81 61 68 82 61 70 61 73") "coap://h/p/s"
+    ∷ gives "82 01 81 61 73" (hex "83 20 81 61 68 81 61 73") "coap://h/s"
+    -- one discarded, and the query with it; all; an authority; a scheme and an authority
+    ∷ gives "81 01" (hex "82 20 81 61 68") "coap://h/"
+    ∷ gives "81 F5" (hex "82 20 81 61 68") "coap://h/"
+    ∷ gives "82 F6 81 61 67" (hex "82 20 81 61 67") "coap://g/"
+    ∷ gives "82 21 81 61 67" (hex "82 21 81 61 67") "coaps://g/"
+    ∷ []
+
 -- ---- 11.5: refusals of the reader, with their places
 
 -- an input, and the number and place that it is refused with
@@ -125,12 +143,24 @@ answeredRefusal r = refusedAs (r .input) (read limits (r .input))
 abbrev pub refusedAt : String → ℕ → ℕ → Refusal
 refusedAt s n k = record { input = hex s; number = n; place = k }
 
+-- n texts "a", one after the other
+abbrev pub row : ℕ → Bytes
+row n = concat (replicate n (hex "61 61"))
+
+-- a text of n bytes "a", for n from 24 to 255
+abbrev pub long : ℕ → Bytes
+long n = hex "78" ++ (n ∷ replicate n 0x61)
+
 -- in the order of RULES 4
 unfoldable pub refusals : List Refusal
 refusals =
     -- a missing item is cut at the input's length; a kind, then a long head; the outer count at the range step
     refusedAt "81" 1 1
     ∷ refusedAt "85 F4" 2 1
+    ∷ refusedAt "81 F7" 2 1
+    ∷ refusedAt "81 C0" 2 1
+    ∷ refusedAt "A0" 2 0
+    ∷ refusedAt "81 1C" 3 1
     ∷ refusedAt "82 18 17" 3 1
     ∷ refusedAt "98" 1 0
     ∷ refusedAt "98 06" 3 0
@@ -143,10 +173,15 @@ refusals =
     ∷ refusedAt "82 62 41 41" 6 1
     -- the opening's own checks before the number of items
     ∷ refusedAt "81 22" 6 1
+    ∷ refusedAt "81 25" 6 1
+    ∷ refusedAt "81 2A" 6 1
+    ∷ refusedAt "81 3A FF FF FF FF" 6 1
+    ∷ refusedAt "81 3B 00 00 00 01 00 00 00 00" 6 1
     ∷ refusedAt "81 64 63 6F 61 70" 6 1
     ∷ refusedAt "85 18 80" 4 1
     ∷ refusedAt "81 18 00" 3 1
     ∷ refusedAt "85 00" 2 1
+    ∷ refusedAt "85 F5" 2 1
     ∷ refusedAt "81 20" 2 1
     ∷ refusedAt "81 00" 2 1
     -- a final null; an empty query
@@ -156,13 +191,170 @@ refusals =
     ∷ refusedAt "82 20 81 05" 2 3
     ∷ refusedAt "82 20 83 61 61 00 61" 2 6
     ∷ refusedAt "82 20 83 61 61 00" 1 6
+    ∷ refusedAt "82 20 83 61 61 00 1C" 2 6
+    ∷ refusedAt "82 20 83 61 61 00 18" 2 6
+    ∷ refusedAt "82 20 83 61 61 00 18 17" 2 6
     ∷ refusedAt "82 20 80" 4 2
     ∷ refusedAt "82 20 89 61 61 61 61 61 61 61 61 61 61 61 61 61 61 61 61 61" 4 19
     ∷ refusedAt "82 20 89 61 61 61 61 61 61 61 61 61 61 61 61 61 61 61 61 7F" 3 19
     ∷ refusedAt "82 20 84 61 31 61 32 61 33 61 34" 6 2
-    -- bytes after the array; an input that is too long
+    ∷ refusedAt "82 20 84 61 30 62 39 39 63 31 30 30 63 32 35 35" 6 2
+    ∷ refusedAt "82 20 85 61 31 61 32 61 33 61 34 1A 00 01 00 00" 4 11
+    -- sizes: an address, a port, an authority; a label, labels with their dots; a segment, parameters, a fragment
+    ∷ refusedAt "82 20 81 43 00 00 00" 4 3
+    ∷ refusedAt "82 20 82 61 61 1A 00 01 00 00" 4 5
+    ∷ refusedAt "82 20 8A" 4 2
+    ∷ refusedAt "82 20 81 60" 4 3
+    ∷ refusedAt "82 20 81 78 40" 4 3
+    ∷ record { input = hex "82 20 85" ++ long 63 ++ long 63 ++ long 63 ++ long 62 ++ row 1; number = 6; place = 2 }
+    ∷ refusedAt "82 00 81 79 01 00" 4 3
+    ∷ refusedAt "83 00 F6 91" 4 3
+    ∷ refusedAt "83 00 F6 81 79 01 00" 4 4
+    ∷ refusedAt "84 00 F6 F6 79 01 00" 4 4
+    -- a scheme that is empty, that begins with a digit, that has a byte beside its ranges
+    ∷ refusedAt "82 60" 4 1
+    ∷ refusedAt "82 61 31" 6 1
+    ∷ refusedAt "82 63 61 5F 62 81 61 61" 6 1
+    ∷ refusedAt "82 62 61 60" 6 1
+    ∷ refusedAt "82 62 61 7B" 6 1
+    ∷ refusedAt "82 62 61 2F" 6 1
+    ∷ refusedAt "82 62 61 3A" 6 1
+    -- "Z" and "." as a label, "." as a segment
+    ∷ refusedAt "82 20 81 61 5A" 6 3
+    ∷ refusedAt "82 20 81 61 2E" 6 3
+    ∷ refusedAt "82 00 81 61 2E" 6 3
+    -- UTF-8: an overlong form, a surrogate, a number over 10FFFF, a byte that leads nothing
+    ∷ refusedAt "82 00 81 63 E0 9F BF" 5 3
+    ∷ refusedAt "82 00 81 63 ED A0 80" 5 3
+    ∷ refusedAt "82 00 81 64 F0 8F BF BF" 5 3
+    ∷ refusedAt "82 00 81 64 F4 90 80 80" 5 3
+    ∷ refusedAt "82 00 81 62 C1 BF" 5 3
+    ∷ refusedAt "82 00 81 64 F5 80 80 80" 5 3
+    -- bytes after the array
     ∷ refusedAt "80 00" 7 1
-    ∷ record { input = replicate (limits .bytes + 1) 0; number = 4; place = limits .bytes }
+    ∷ []
+
+-- ---- 11.7: accepted inputs
+
+-- the input is accepted
+abbrev pub accepts : Bytes → Refusal
+accepts bs = record { input = bs; number = 0; place = 0 }
+
+-- at the sizes of RULES 2, and one step inside the rules of texts
+unfoldable pub accepted : List Refusal
+accepted =
+    -- discards, a scheme text, a port, a label, labels with their dots, an authority of nine items
+    accepts (hex "81 17")
+    ∷ accepts (hex "81 18 18")
+    ∷ accepts (hex "81 18 7F")
+    ∷ accepts (hex "82 70 61" ++ replicate 15 0x2B ++ hex "81 61 61")
+    ∷ accepts (hex "82 20 82 61 61 19 FF FF")
+    ∷ accepts (hex "82 20 81" ++ long 63)
+    ∷ accepts (hex "82 20 85" ++ long 63 ++ long 63 ++ long 63 ++ long 61 ++ row 1)
+    ∷ accepts (hex "82 20 89" ++ row 8 ++ hex "00")
+    -- a segment, parameters, a fragment, an empty one
+    ∷ accepts (hex "82 00 81" ++ long 255)
+    ∷ accepts (hex "83 00 F6 90" ++ row 16)
+    ∷ accepts (hex "83 00 F6 81" ++ long 255)
+    ∷ accepts (hex "84 00 F6 F6" ++ long 255)
+    ∷ accepts (hex "84 00 F6 F6 60")
+    -- four labels of which one is 256, has a leading zero, is no number; three and five labels
+    ∷ accepts (hex "82 20 84 63 32 35 36 61 32 61 33 61 34")
+    ∷ accepts (hex "82 20 84 61 31 62 30 31 61 33 61 34")
+    ∷ accepts (hex "82 20 84 61 31 61 32 61 33 61 61")
+    ∷ accepts (hex "82 20 83 61 31 61 32 61 33")
+    ∷ accepts (hex "82 20 85 61 31 61 32 61 33 61 34 61 35")
+    -- "@" as a label; "..." as a segment; each byte of a scheme text; UTF-8 at the ends of its ranges
+    ∷ accepts (hex "82 20 81 61 40")
+    ∷ accepts (hex "82 00 81 63 2E 2E 2E")
+    ∷ accepts (hex "82 68 61 7A 30 39 2B 2E 2D 6D 81 61 61")
+    ∷ accepts (hex "82 00 82 62 C2 80 62 DF BF")
+    ∷ accepts (hex "82 00 84 63 E0 A0 80 63 ED 9F BF 63 EE 80 80 63 EF BF BF")
+    ∷ accepts (hex "82 00 82 64 F0 90 80 80 64 F4 8F BF BF")
+    ∷ []
+
+-- the sizes in force, RULES 2.1 and 2.2: an input that is too long, one that is not; 33 segments, and 32
+unfoldable pub sizes : List Refusal
+sizes =
+    record { input = replicate 1025 0; number = 4; place = 1024 }
+    ∷ record { input = replicate 1024 0; number = 2; place = 0 }
+    ∷ refusedAt "82 00 98 21" 4 2
+    ∷ accepts (hex "82 00 98 20" ++ row 32)
+    ∷ []
+
+-- ---- 11.8: texts
+
+-- an input, and the ruling on its URI text
+pub record Text : Type 0 where
+  pub input : Bytes
+  pub result : Ruling
+
+-- the input prints as this text
+abbrev pub prints : String → String → Text
+prints s t = record { input = hex s; result = write (ascii t) }
+
+-- what the call answers
+abbrev pub answeredText : Text → Text
+answeredText t = record { input = t .input; result = textCall limits (t .input) }
+
+-- the name of each scheme; four labels that are no IPv4 address; every part; addresses; two that are not absolute
+unfoldable pub texts : List Text
+texts =
+    prints "82 20 81 61 68" "coap://h/"
+    ∷ prints "82 21 81 61 68" "coaps://h/"
+    ∷ prints "82 26 81 61 68" "coap+tcp://h/"
+    ∷ prints "82 27 81 61 68" "coaps+tcp://h/"
+    ∷ prints "82 28 81 61 68" "coap+ws://h/"
+    ∷ prints "82 29 81 61 68" "coaps+ws://h/"
+    ∷ prints "82 20 84 63 32 35 36 61 32 61 33 61 34" "coap://256.2.3.4/"
+    ∷ prints "82 20 84 61 31 62 30 31 61 33 61 34" "coap://1.01.3.4/"
+    ∷ prints "85 62 61 2B 82 61 68 00 82 61 70 61 73 82 61 71 60 61 66" "a+://h:0/p/s?q&#f"
+    ∷ prints "82 20 81 44 00 0A 64 FF" "coap://0.10.100.255/"
+    ∷ prints "82 20 82 50 20 01 0D B8 00 00 00 00 00 01 00 00 00 00 00 01 18 50" "coap://[2001:db8::1:0:0:1]:80/"
+    ∷ record { input = hex "80"; result = refuse 8 }
+    ∷ record { input = hex "82 F6 81 61 61"; result = refuse 8 }
+    ∷ []
+
+-- ---- 11.9: escapes
+
+-- every byte from n on, k of them
+abbrev pub counting : ℕ → ℕ → Bytes
+counting n zero = []
+counting n (suc k) = n ∷ counting (suc n) k
+
+-- where a byte stands, and the text of all 256 bytes there
+pub record Escaped : Type 0 where
+  pub class : Class
+  pub text : Bytes
+
+-- 00 to 1F
+abbrev pub control : Bytes
+control =
+    ascii "%00%01%02%03%04%05%06%07%08%09%0A%0B%0C%0D%0E%0F%10%11%12%13%14%15%16%17%18%19%1A%1B%1C%1D%1E%1F"
+
+-- 80 to FF
+abbrev pub high : Bytes
+high =
+    ascii "%80%81%82%83%84%85%86%87%88%89%8A%8B%8C%8D%8E%8F%90%91%92%93%94%95%96%97%98%99%9A%9B%9C%9D%9E%9F"
+    ++ ascii "%A0%A1%A2%A3%A4%A5%A6%A7%A8%A9%AA%AB%AC%AD%AE%AF%B0%B1%B2%B3%B4%B5%B6%B7%B8%B9%BA%BB%BC%BD%BE%BF"
+    ++ ascii "%C0%C1%C2%C3%C4%C5%C6%C7%C8%C9%CA%CB%CC%CD%CE%CF%D0%D1%D2%D3%D4%D5%D6%D7%D8%D9%DA%DB%DC%DD%DE%DF"
+    ++ ascii "%E0%E1%E2%E3%E4%E5%E6%E7%E8%E9%EA%EB%EC%ED%EE%EF%F0%F1%F2%F3%F4%F5%F6%F7%F8%F9%FA%FB%FC%FD%FE%FF"
+
+-- 20 to 7F, between them
+abbrev pub escapes : Class → String → Escaped
+escapes k t = record { class = k; text = control ++ ascii t ++ high }
+
+-- what is written
+abbrev pub answeredEscape : Escaped → Escaped
+answeredEscape e = record { class = e .class; text = escape (e .class) (counting 0 256) }
+
+-- one text for each part of a URI
+unfoldable pub escaped : List Escaped
+escaped =
+    escapes Label "%20!%22%23$%25&'()*+,-.%2F0123456789%3A;%3C=%3E%3F%40ABCDEFGHIJKLMNOPQRSTUVWXYZ%5B%5C%5D%5E_%60abcdefghijklmnopqrstuvwxyz%7B%7C%7D~%7F"
+    ∷ escapes Segment "%20!%22%23$%25&'()*+,-.%2F0123456789:;%3C=%3E%3F@ABCDEFGHIJKLMNOPQRSTUVWXYZ%5B%5C%5D%5E_%60abcdefghijklmnopqrstuvwxyz%7B%7C%7D~%7F"
+    ∷ escapes Parameter "%20!%22%23$%25%26'()*+,-./0123456789:;%3C=%3E?@ABCDEFGHIJKLMNOPQRSTUVWXYZ%5B%5C%5D%5E_%60abcdefghijklmnopqrstuvwxyz%7B%7C%7D~%7F"
+    ∷ escapes Fragment "%20!%22%23$%25&'()*+,-./0123456789:;%3C=%3E?@ABCDEFGHIJKLMNOPQRSTUVWXYZ%5B%5C%5D%5E_%60abcdefghijklmnopqrstuvwxyz%7B%7C%7D~%7F"
     ∷ []
 
 -- ---- 11.2: options
@@ -191,6 +383,25 @@ requests =
     ∷ request (hex "84 20 81 44 C6 33 64 01 F6 81 61 61") 5683 (hex "D1 02 61")
     -- a lone empty segment has no option
     ∷ request (hex "83 20 81 44 C6 33 64 01 81 60") 5683 []
+    -- another address, an IPv6 address, labels as they are, port 0, a segment as it is
+    ∷ request (hex "82 20 81 44 C6 33 64 02") 5683 (hex "3C" ++ ascii "198.51.100.2")
+    ∷ request (hex "82 20 81 50 00 00 00 00 00 00 00 00 00 00 00 00 00 00 00 01") 5683 (hex "35" ++ ascii "[::1]")
+    ∷ request (hex "82 20 82 61 68 62 C3 A9") 5683 (hex "34 68 2E C3 A9")
+    ∷ request (hex "82 20 82 44 C6 33 64 01 00") 5683 (hex "70")
+    ∷ request (hex "83 20 81 44 C6 33 64 01 81 61 2F") 5683 (hex "B1 2F")
+    -- each scheme, to its default port and to the one after it
+    ∷ request (hex "82 20 81 44 C6 33 64 01") 5683 []
+    ∷ request (hex "82 20 81 44 C6 33 64 01") 5684 (hex "72 16 33")
+    ∷ request (hex "82 21 81 44 C6 33 64 01") 5684 []
+    ∷ request (hex "82 21 81 44 C6 33 64 01") 5685 (hex "72 16 34")
+    ∷ request (hex "82 26 81 44 C6 33 64 01") 5683 []
+    ∷ request (hex "82 26 81 44 C6 33 64 01") 5684 (hex "72 16 33")
+    ∷ request (hex "82 27 81 44 C6 33 64 01") 5684 []
+    ∷ request (hex "82 27 81 44 C6 33 64 01") 5685 (hex "72 16 34")
+    ∷ request (hex "82 28 81 44 C6 33 64 01") 80 []
+    ∷ request (hex "82 28 81 44 C6 33 64 01") 81 (hex "71 50")
+    ∷ request (hex "82 29 81 44 C6 33 64 01") 443 []
+    ∷ request (hex "82 29 81 44 C6 33 64 01") 444 (hex "72 01 BB")
     ∷ []
 
 -- ---- 11.3: IPv6 texts
@@ -262,4 +473,56 @@ codings =
     ∷ fault "DD 02"
     -- a value cut
     ∷ fault "11"
+    ∷ []
+
+-- ---- 11.10: views
+
+-- an input and a number, and the number and the part that the view of that segment gives
+pub record SegmentRow : Type 0 where
+  pub input : Bytes
+  pub nth : ℕ
+  pub number : ℕ
+  pub part : Span
+
+-- the n-th segment of the input
+abbrev pub segmentOf : String → ℕ → ℕ → Span → SegmentRow
+segmentOf s n m p = record { input = hex s; nth = n; number = m; part = p }
+
+-- what the view gives
+abbrev pub answeredSegment : SegmentRow → SegmentRow
+answeredSegment r =
+    let v : Res Span = segmentView limits (r .input) (r .nth) in
+    record { input = r .input; nth = r .nth; number = numberOf v; part = segmentShown v }
+
+-- an empty segment and one after it; none; a refused input
+unfoldable pub segmentRows : List SegmentRow
+segmentRows =
+    segmentOf "82 00 82 60 61 61" 0 0 (span 4 0)
+    ∷ segmentOf "82 00 82 60 61 61" 1 0 (span 5 1)
+    ∷ segmentOf "82 00 82 60 61 61" 2 18 (span 0 0)
+    ∷ segmentOf "81 00" 0 2 (span 0 0)
+    ∷ []
+
+-- a reference, and the number and the part that the view of the authority gives against B
+pub record AuthorityRow : Type 0 where
+  pub input : Bytes
+  pub number : ℕ
+  pub part : Piece
+
+-- of this reference
+abbrev pub authorityOf : String → ℕ → Piece → AuthorityRow
+authorityOf s m p = record { input = hex s; number = m; part = p }
+
+-- what the view gives
+abbrev pub answeredAuthority : AuthorityRow → AuthorityRow
+answeredAuthority r =
+    let v : Res Piece = authorityView limits B (r .input) in
+    record { input = r .input; number = numberOf v; part = pieceShown v }
+
+-- the base's; the reference's own; a refused reference
+unfoldable pub authorityRows : List AuthorityRow
+authorityRows =
+    authorityOf "80" 0 (ofBase (span 2 9))
+    ∷ authorityOf "82 F6 81 61 61" 0 (ofReference (span 2 3))
+    ∷ authorityOf "81 00" 2 (ofReference (span 0 0))
     ∷ []

@@ -3,23 +3,24 @@ use Prim.Native.Nat.{ℕ, _+_, _*_, _^_, _≤_, _<_}
 use mathlib.Core.Path.{_≡_}
 use mathlib.Core.Bool.{true, false}
 use mathlib.Core.List.{List, [], _∷_, _++_, map}
-use mathlib.Core.Logic.{_↔_}
+use mathlib.Core.Logic.{_↔_, _⊎_}
 use mathlib.Core.Option.{none, some}
-use lib.ListN.{length, take}
-use Rattle.rules.specs.Bytes.{Bytes, Octets, hex}
+use lib.ListN.{length, take, drop, getElem?}
+use Rattle.rules.specs.Bytes.{Bytes, Octets, all, hex}
 use Rattle.rules.specs.Result.{refused, ok, CUT, TAIL, RESULT}
-use Rattle.rules.specs.Model.{discard, Reference, Components, mapParts, Limits, Cri, reference, normalPath, normal, Same}
+use Rattle.rules.specs.Model.{Authority, discard, full, Span, Reference, absolute, Components, mapParts, Limits, elements, Cri, reference, normalPath, normal, Same}
 use Rattle.rules.specs.Reader.{taken, Found, read}
-use Rattle.rules.specs.Meaning.{readReference, readAbsolute}
-use Rattle.rules.specs.Encode.{encode}
+use Rattle.rules.specs.Meaning.{span, components, readReference, readAbsolute}
+use Rattle.rules.specs.Encode.{authorityItem, encode}
 use Rattle.rules.specs.Valid.{Valid}
-use Rattle.rules.specs.Resolve.{resolve, fits}
+use Rattle.rules.specs.Resolve.{openingAuthority, resolve, fits}
 use Rattle.rules.specs.Rules.{SchemeEntry}
 use Rattle.rules.specs.Text.{uriText}
 use Rattle.rules.specs.Options.{CoapOption, options, optionsFrom, coapScheme, readOptions, Codable}
-use Rattle.rules.specs.Writing.{Sized, readCall}
+use Rattle.rules.specs.Writing.{allTexts, Sized, counted, inside, Reading, readCall}
 use Rattle.rules.specs.Calls.{Ruling, refuse, write, Done, outcome, after, resolveCall, textCall, optionsCall, writeCall}
-use Rattle.rules.specs.Cases.{AllHold, B, starred, unstarred, longBase, slips, refusals, answeredRefusal, requests, answeredRequest, codings, answeredCoding, addresses, ipv6Printed}
+use Rattle.rules.specs.Views.{segmentView, Piece, ofReference, ofBase, authorityView, segmentShown, pieceShown, numberOf}
+use Rattle.rules.specs.Cases.{AllHold, B, starred, unstarred, longBase, slips, steps, refusals, accepted, sizes, answeredRefusal, texts, answeredText, escaped, answeredEscape, requests, answeredRequest, codings, answeredCoding, addresses, ipv6Printed, segmentRows, answeredSegment, authorityRows, answeredAuthority}
 
 -- ---- the reader accepts exactly the encodings of valid references, and gives them back
 
@@ -54,6 +55,120 @@ abbrev pub Tail : Type 0
 Tail =
     (lim : Limits) (p : Bytes) (b : ℕ) (q : Bytes) → Octets p → length (p ++ (b ∷ q)) ≤ lim .bytes → (f : Found)
     → read lim p ≡ ok f → read lim (p ++ (b ∷ q)) ≡ refused TAIL (length p)
+
+-- ---- demand 1: the room
+
+-- RULES 3.1: after a refusal the length is 0 and every byte of the room is as it was; the length told lies inside the room, and past it the
+-- room is as it was; its length stays
+pub record Untouched (u : Ruling) (room : Bytes) : Type 0 where
+  pub refused : (outcome u (length room) .number ≡ 0 → ⊥) → (outcome u (length room) .length ≡ 0) × (after u room ≡ room)
+  pub within : outcome u (length room) .length ≤ length room
+  pub past : drop (outcome u (length room) .length) (after u room) ≡ drop (outcome u (length room) .length) room
+  pub size : length (after u room) ≡ length room
+
+-- RULES 3.7, of a room of n bytes: 10 exactly where the output is longer than the room
+pub record RoomNumbers (u : Ruling) (n : ℕ) : Type 0 where
+  pub own : (m : ℕ) → u ≡ refuse m → outcome u n ≡ record { number = m; length = 0 }
+  pub ten : (w : Bytes) → u ≡ write w → n < length w → outcome u n ≡ record { number = 10; length = 0 }
+  pub done : (w : Bytes) → u ≡ write w → length w ≤ n → outcome u n ≡ record { number = 0; length = length w }
+
+-- for every call that writes
+abbrev pub Rooms : Type 0
+Rooms = (u : Ruling) (room : Bytes) → Untouched u room × RoomNumbers u (length room)
+
+-- ---- demand 1: the numbers
+
+-- Each family below has the cases of one call, in the order of its rule, and what the call answers in each.
+
+-- 1 to 7
+abbrev pub Own : ℕ → Type 0
+Own n = (1 ≤ n) × (n ≤ 7)
+
+-- RULES 9.5: 1 to 7, and every component unset
+pub data ReadAnswers (lim : Limits) (bs : Bytes) : Reading → Type 0 where
+  read-own : {n k : ℕ} → Own n → read lim bs ≡ refused n k
+      → ReadAnswers lim bs (record { number = n; components = record { opening = full none none; path = none; query = none; fragment = none } })
+  read-done : {f : Found} → read lim bs ≡ ok f → ReadAnswers lim bs (record { number = 0; components = components bs f })
+
+-- RULES 3.3: 8 for the base, then the reference's 1 to 7, then 9
+pub data ResolveAnswers (lim : Limits) (base ref : Bytes) : Ruling → Type 0 where
+  resolve-8 : {n k : ℕ} → readAbsolute lim base ≡ refused n k → ResolveAnswers lim base ref (refuse 8)
+  resolve-own : {b : Cri} {n k : ℕ} → readAbsolute lim base ≡ ok b → Own n → readReference lim ref ≡ refused n k → ResolveAnswers lim base ref (refuse n)
+  resolve-9 : {b : Cri} {r : Reference} → readAbsolute lim base ≡ ok b → readReference lim ref ≡ ok r → fits lim (resolve b r) ≡ false
+      → ResolveAnswers lim base ref (refuse 9)
+  resolve-done : {b : Cri} {r : Reference} → readAbsolute lim base ≡ ok b → readReference lim ref ≡ ok r → fits lim (resolve b r) ≡ true
+      → ResolveAnswers lim base ref (write (encode (reference (resolve b r))))
+
+-- RULES 3.4: 1 to 7, then 8 if the reference is not absolute
+pub data TextAnswers (lim : Limits) (bs : Bytes) : Ruling → Type 0 where
+  text-own : {n k : ℕ} → Own n → readReference lim bs ≡ refused n k → TextAnswers lim bs (refuse n)
+  text-8 : {r : Reference} → readReference lim bs ≡ ok r → absolute r ≡ none → TextAnswers lim bs (refuse 8)
+  text-done : {r : Reference} {c : Cri} → readReference lim bs ≡ ok r → absolute r ≡ some c → TextAnswers lim bs (write (uriText c))
+
+-- an address has 4 or 16 bytes
+abbrev pub IsAddress : Bytes → Type 0
+IsAddress a = (length a ≡ 4) ⊎ (length a ≡ 16)
+
+-- RULES 3.5: 12, then 1 to 7, then 8 if the reference is not absolute, then 11
+pub data OptionsAnswers (lim : Limits) (bs toAddress : Bytes) (toPort : ℕ) : Ruling → Type 0 where
+  options-12 : (IsAddress toAddress → ⊥) → OptionsAnswers lim bs toAddress toPort (refuse 12)
+  options-own : {n k : ℕ} → IsAddress toAddress → Own n → readReference lim bs ≡ refused n k → OptionsAnswers lim bs toAddress toPort (refuse n)
+  options-8 : {r : Reference} → IsAddress toAddress → readReference lim bs ≡ ok r → absolute r ≡ none → OptionsAnswers lim bs toAddress toPort (refuse 8)
+  options-11-scheme : {c : Cri} → IsAddress toAddress → readAbsolute lim bs ≡ ok c → coapScheme (c .scheme) ≡ none
+      → OptionsAnswers lim bs toAddress toPort (refuse 11)
+  options-11-fragment : {c : Cri} {e : SchemeEntry} {t : Bytes} → IsAddress toAddress → readAbsolute lim bs ≡ ok c → coapScheme (c .scheme) ≡ some e
+      → c .fragment ≡ some t → OptionsAnswers lim bs toAddress toPort (refuse 11)
+  options-done : {c : Cri} {e : SchemeEntry} → IsAddress toAddress → readAbsolute lim bs ≡ ok c → coapScheme (c .scheme) ≡ some e → c .fragment ≡ none
+      → OptionsAnswers lim bs toAddress toPort (write (optionsFrom 0 (options c e toAddress toPort)))
+
+-- RULES 9.2, 9.3: 4, then the reader's 1 to 7 for the encoding
+pub data WriteAnswers (lim : Limits) (c : Components) (lent : Bytes) : Ruling → Type 0 where
+  write-4-count : counted lim c ≡ false → WriteAnswers lim c lent (refuse 4)
+  write-4-span : counted lim c ≡ true → all (inside lent) (allTexts c) ≡ false → WriteAnswers lim c lent (refuse 4)
+  write-own : {n k : ℕ} → counted lim c ≡ true → all (inside lent) (allTexts c) ≡ true → Own n → read lim (encode (mapParts (taken lent) c)) ≡ refused n k
+      → WriteAnswers lim c lent (refuse n)
+  write-done : {f : Found} → counted lim c ≡ true → all (inside lent) (allTexts c) ≡ true → read lim (encode (mapParts (taken lent) c)) ≡ ok f
+      → WriteAnswers lim c lent (write (encode (mapParts (taken lent) c)))
+
+-- RULES 10.1, 10.3: 1 to 7, then 18, with the empty part at the start; or the part that holds the n-th segment
+pub data SegmentAnswers (lim : Limits) (bs : Bytes) (n : ℕ) : ℕ → Span → Type 0 where
+  segment-own : {m k : ℕ} → Own m → readReference lim bs ≡ refused m k → SegmentAnswers lim bs n m (span 0 0)
+  segment-18 : {r : Reference} → readReference lim bs ≡ ok r → getElem? (elements (r .path)) n ≡ none → SegmentAnswers lim bs n 18 (span 0 0)
+  segment-done : {r : Reference} {s : Span} → readReference lim bs ≡ ok r → getElem? (elements (r .path)) n ≡ some (taken bs s) → SegmentAnswers lim bs n 0 s
+
+-- RULES 10.2, 10.3: 8 for the base, then the reference's 1 to 7, with the empty part at the start of the reference; or the part that holds
+-- the whole item of the reference's own authority, else of the base's
+pub data AuthorityAnswers (lim : Limits) (base ref : Bytes) : ℕ → Piece → Type 0 where
+  authority-8 : {n k : ℕ} → readAbsolute lim base ≡ refused n k → AuthorityAnswers lim base ref 8 (ofReference (span 0 0))
+  authority-own : {b : Cri} {n k : ℕ} → readAbsolute lim base ≡ ok b → Own n → readReference lim ref ≡ refused n k
+      → AuthorityAnswers lim base ref n (ofReference (span 0 0))
+  authority-of-reference : {b : Cri} {r : Reference} {a : Authority Bytes} {s : Span} → readAbsolute lim base ≡ ok b → readReference lim ref ≡ ok r
+      → openingAuthority (r .opening) ≡ some a → taken ref s ≡ authorityItem a → AuthorityAnswers lim base ref 0 (ofReference s)
+  authority-of-base : {b : Cri} {r : Reference} {s : Span} → readAbsolute lim base ≡ ok b → readReference lim ref ≡ ok r
+      → openingAuthority (r .opening) ≡ none → taken base s ≡ authorityItem (b .authority) → AuthorityAnswers lim base ref 0 (ofBase s)
+
+-- a call answers a: that is the answer of a case, and no case with another answer holds
+pub record Decides {A : Type 0} (Case : A → Type 0) (a : A) : Type 0 where
+  pub told : Case a
+  pub only : (x : A) → Case x → a ≡ x
+
+-- of a view: the number is that of its case alone
+pub record Shows {A : Type 0} (Case : ℕ → A → Type 0) (n : ℕ) (a : A) : Type 0 where
+  pub told : Case n a
+  pub only : (m : ℕ) (x : A) → Case m x → n ≡ m
+
+-- for any limits and any inputs
+pub record CallNumbers : Type 0 where
+  pub reading : (lim : Limits) (bs : Bytes) → Decides (ReadAnswers lim bs) (readCall lim bs)
+  pub resolving : (lim : Limits) (base ref : Bytes) → Decides (ResolveAnswers lim base ref) (resolveCall lim base ref)
+  pub printing : (lim : Limits) (bs : Bytes) → Decides (TextAnswers lim bs) (textCall lim bs)
+  pub requesting : (lim : Limits) (bs toAddress : Bytes) (toPort : ℕ)
+      → Decides (OptionsAnswers lim bs toAddress toPort) (optionsCall lim bs toAddress toPort)
+  pub writing : (lim : Limits) (c : Components) (lent : Bytes) → Decides (WriteAnswers lim c lent) (writeCall lim c lent)
+  pub segments : (lim : Limits) (bs : Bytes) (n : ℕ)
+      → Shows (SegmentAnswers lim bs n) (numberOf (segmentView lim bs n)) (segmentShown (segmentView lim bs n))
+  pub authorities : (lim : Limits) (base ref : Bytes) → Octets base → Octets ref
+      → Shows (AuthorityAnswers lim base ref) (numberOf (authorityView lim base ref)) (pieceShown (authorityView lim base ref))
 
 -- ---- demand 2: what was read is written again as it was, and what was written is read again as it was
 
@@ -190,12 +305,19 @@ OptionsBound =
 abbrev pub Starred : Type 0
 Starred = AllHold B starred
 
--- the remaining rows, the two slips, refusals with their places, the option examples, option bytes read back and the IPv6 examples,
--- one statement
+-- the remaining rows, the two slips, each item of a reference, refusals with their places, accepted inputs, sizes, texts, escapes, options,
+-- option bytes read back, IPv6 texts and views, one statement
 pub record Examples : Type 0 where
   pub rows : AllHold B unstarred
   pub slipped : AllHold longBase slips
+  pub steps : AllHold longBase steps
   pub order : map answeredRefusal refusals ≡ refusals
+  pub accepted : map answeredRefusal accepted ≡ accepted
+  pub sizes : map answeredRefusal sizes ≡ sizes
+  pub texts : map answeredText texts ≡ texts
+  pub escaped : map answeredEscape escaped ≡ escaped
   pub options : map answeredRequest requests ≡ requests
   pub codings : map answeredCoding codings ≡ codings
   pub ipv6 : map ipv6Printed addresses ≡ addresses
+  pub segments : map answeredSegment segmentRows ≡ segmentRows
+  pub authorities : map answeredAuthority authorityRows ≡ authorityRows

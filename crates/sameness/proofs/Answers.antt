@@ -2,24 +2,25 @@
 use Prim.Native.Nat.{ℕ, _+_, _*_, _≤_}
 use native.Mathlib.Omega.{arith}
 use mathlib.Core.Path.{_≡_, refl, sym, ap, ap₂, _∙_}
-use mathlib.Core.Bool.{Bool, true, false, cond}
-use mathlib.Core.List.{[], _∷_, _++_}
+use mathlib.Core.Bool.{Bool, true, false}
+use mathlib.Core.List.{[], _∷_}
 use mathlib.Core.Logic.{_↔_}
 use mathlib.Core.Option.{Option, none, some}
-use lib.ListN.{length, take, drop, length-append}
-use lib.Dec.{eqb, ltb}
-use borrow.Author.Tests.{eqb-true, ltb-false}
+use lib.ListN.{length, take}
+use lib.Dec.{eqb}
+use borrow.Author.Tests.{eqb-true}
 use Rattle.rules.specs.Bytes.{Bytes, Octets, same}
-use Rattle.rules.specs.Result.{Res, refused, ok, given, _>>=_, BASE, ROOM}
+use Rattle.rules.specs.Result.{Res, refused, ok, given, _>>=_, BASE}
 use Rattle.rules.specs.Model.{Limits, limits, Cri, Same, absolute}
 use Rattle.rules.specs.Reader.{Found, read}
 use Rattle.rules.specs.Meaning.{meaning, readReference, readAbsolute}
 use Rattle.rules.specs.Text.{uriText}
 use Rattle.rules.specs.Views.{numberOf}
 use Rattle.rules.specs.Calls as Calls
-use Rattle.rules.specs.Calls.{Ruling, refuse, write, outcome, after, textCall}
+use Rattle.rules.specs.Calls.{Ruling, refuse, outcome, after, textCall}
 use Rattle.rules.specs.Promises.{done, shown}
-use Rattle.rules.proofs.Tools.{never, and-left, and-right, by-test, cond-split, same-refl}
+use Rattle.rules.proofs.Tools.{never, and-left, and-right, same-refl}
+use Rattle.rules.proofs.CallNumbers.{told-within, told-fits, untouched}
 use Rattle.rules.proofs.Absolutes.{absolute-size, textRuling, text-ruled}
 use Rattle.rules.proofs.Proved.{numbers-proved, demand3-proved, bound-proved}
 use Rattle.outcomes.specs.declared.Done.{Done}
@@ -75,10 +76,6 @@ number-refused : (k n : ℕ) → outcome (refuse k) n .number ≡ k
 unfolding outcome
 number-refused k n = refl
 
-number-fits : (w : Bytes) (n : ℕ) → outcome (write w) n .number ≡ 0 → length w ≤ n
-unfolding outcome
-number-fits w n = cond-split (λ (r : Calls.Done). r .number ≡ 0 → length w ≤ n) (ltb n (length w)) (λ t e. absurd (omega arith)) (λ t e. ltb-false n (length w) t)
-
 -- a call that is done was handed an absolute input, whose text fits
 module _ (bs : Bytes) (n : ℕ) (e : outcome (textCall limits bs) n .number ≡ 0) where
   ruled-done : (r : Res Cri) → readAbsolute limits bs ≡ r → outcome (textRuling r) n .number ≡ 0
@@ -92,7 +89,7 @@ module _ (bs : Bytes) (n : ℕ) (e : outcome (textCall limits bs) n .number ≡ 
       go (ok c) d = (c, d)
 
   done-fits : (c : Cri) → readAbsolute limits bs ≡ ok c → length (uriText c) ≤ n
-  done-fits c d = number-fits (uriText c) n (ruled-done (ok c) d)
+  done-fits c d = told-fits (uriText c) n (ruled-done (ok c) d)
 
 -- RULES 6.6: a room that is long enough for every accepted input has no part in the number
 number-enough : (bs : Bytes) (n : ℕ) → Octets bs → 3 * limits .bytes + 13 ≤ n → outcome (textCall limits bs) n .number ≡ numberOf (readAbsolute limits bs)
@@ -105,12 +102,7 @@ number-enough bs n h l = go (readAbsolute limits bs) refl
 -- ---- what a call left
 
 outcome-inside : (u : Ruling) (room : Bytes) → outcome u (length room) .length ≤ length (after u room)
-unfolding outcome after
-outcome-inside (refuse k) room = omega arith
-outcome-inside (write w) room =
-    by-test (λ t. cond {A = Calls.Done} t (record { number = ROOM; length = 0 }) (record { number = 0; length = length w }) .length ≤ length (cond t room (w ++ drop (length w) room))) (ltb (length room) (length w))
-    (λ e. omega arith)
-    (λ e. omega (arith, length-append w (drop (length w) room)))
+outcome-inside u room = omega (arith, told-within u (length room), untouched u room .size)
 
 module _ {u : Ruling} {room left : Bytes} {answer : Calls.Done} (p : Right u room answer left) where
   number-told : answer .number ≡ outcome u (length room) .number

@@ -1,0 +1,220 @@
+-- What each call answers, by cases: the room, reading, resolving, URI text, options, writing.
+use Prim.Native.Nat.{ℕ, _+_, _≤_}
+use native.Mathlib.Omega.{arith}
+use mathlib.Core.Path.{_≡_, refl, sym, ap, _∙_}
+use mathlib.Core.Bool.{Bool, true, false, _||_, true≢false}
+use mathlib.Core.Logic.{inl, inr}
+use mathlib.Core.Option.{Option, none, some}
+use lib.ListN.{length, drop, length-append, length-drop}
+use lib.Seq.{drop-at}
+use lib.Dec.{ltb, eqb}
+use borrow.Author.Tests.{le-ltb, lt-ltb, ltb-false, eqb-true}
+use Rattle.rules.specs.Bytes.{Bytes, all}
+use Rattle.rules.specs.Result.{Res, refused, ok, need, given, _>>=_, _>>_}
+use Rattle.rules.specs.Model.{Limits, Reference, Cri, Components, absolute, mapParts}
+use Rattle.rules.specs.Reader.{Found, taken, read}
+use Rattle.rules.specs.Meaning.{meaning, readReference, readAbsolute}
+use Rattle.rules.specs.Encode.{encode}
+use Rattle.rules.specs.Rules.{SchemeEntry}
+use Rattle.rules.specs.Resolve.{resolve, fits, resolved}
+use Rattle.rules.specs.Options.{coapScheme}
+use Rattle.rules.specs.Writing.{Reading, counted, inside, allTexts, written, readCall}
+use Rattle.rules.specs.Calls.{Ruling, refuse, write, Done, outcome, after, absent, printed, requested, resolveCall, textCall, optionsCall, writeCall}
+use Rattle.rules.specs.Promises.{Untouched, RoomNumbers, Own, Decides}
+use Rattle.rules.specs.Promises.{ReadAnswers, read-own, read-done, ResolveAnswers, resolve-8, resolve-own, resolve-9, resolve-done}
+use Rattle.rules.specs.Promises.{TextAnswers, text-own, text-8, text-done, WriteAnswers, write-4-count, write-4-span, write-own, write-done}
+use Rattle.rules.specs.Promises.{IsAddress, OptionsAnswers, options-12, options-own, options-8, options-11-scheme, options-11-fragment, options-done}
+use Rattle.rules.proofs.Tools.{cond-split}
+use Rattle.rules.proofs.Steps.{refused-ok}
+use Rattle.rules.proofs.RefusalNumbers.{numbers}
+
+-- ---- the room
+
+-- the length told lies inside the room
+pub told-within : (u : Ruling) (n : ℕ) → outcome u n .length ≤ n
+unfolding outcome
+told-within (refuse k) n = omega arith
+told-within (write w) n = cond-split (λ (d : Done). d .length ≤ n) (ltb n (length w)) (λ t. omega arith) (λ t. ltb-false n (length w) t)
+
+-- with 0, the output fits
+pub told-fits : (w : Bytes) (n : ℕ) → outcome (write w) n .number ≡ 0 → length w ≤ n
+unfolding outcome
+told-fits w n = cond-split (λ (d : Done). d .number ≡ 0 → length w ≤ n) (ltb n (length w)) (λ t e. absurd (omega arith)) (λ t e. ltb-false n (length w) t)
+
+pub untouched : (u : Ruling) (room : Bytes) → Untouched u room
+unfolding outcome after
+untouched (refuse n) room = record { refused = λ h. (refl, refl); within = told-within (refuse n) (length room); past = refl; size = refl }
+untouched (write w) room = go (ltb (length room) (length w)) refl
+  where
+    go : (t : Bool) → ltb (length room) (length w) ≡ t → Untouched (write w) room
+    go true e = record { refused = λ h. rw e (refl, refl); within = told-within (write w) (length room); past = rw e; size = rw e }
+    go false e =
+        record {
+          refused = λ h. absurd (h (rw e));
+          within = told-within (write w) (length room);
+          past = rw e (drop-at w (drop (length w) room) (length w) refl);
+          size =
+              rw e
+              (length-append w (drop (length w) room) ∙ ap (λ (n : ℕ). length w + n) (length-drop (length w) room)
+              ∙ omega (arith, ltb-false (length room) (length w) e));
+        }
+
+pub room-numbers : (u : Ruling) (n : ℕ) → RoomNumbers u n
+unfolding outcome
+room-numbers u n =
+    record { own = λ m e. rw e; ten = λ w e l. rw (e, lt-ltb n (length w) l); done = λ w e l. rw (e, le-ltb n (length w) l) }
+
+-- ---- reading
+
+-- the same refusals for a reference
+own-reference : (lim : Limits) (bs : Bytes) (n k : ℕ) → readReference lim bs ≡ refused n k → Own n
+unfolding readReference _>>=_
+own-reference lim bs n k e = go (read lim bs) refl
+  where
+    go : (x : Res Found) → read lim bs ≡ x → Own n
+    go (refused m j) d = let z : _≡_ {A = Res Reference} (refused m j) (refused n k) = sym (rw d) ∙ e in numbers lim bs n k (d ∙ cc)
+    go (ok f) d = refused-ok n k (meaning bs f) (sym e ∙ rw d)
+
+pub read-answers : (lim : Limits) (bs : Bytes) → Decides (ReadAnswers lim bs) (readCall lim bs)
+unfolding readCall
+read-answers lim bs = record { told = go (read lim bs) refl; only = only }
+  where
+    go : (x : Res Found) → read lim bs ≡ x → ReadAnswers lim bs (readCall lim bs)
+    go (refused n k) e = rw e (read-own (numbers lim bs n k e) e)
+    go (ok f) e = rw e (read-done e)
+
+    only : (x : Reading) → ReadAnswers lim bs x → readCall lim bs ≡ x
+    only _ (read-own h e) = rw e
+    only _ (read-done e) = rw e
+
+-- ---- resolving
+
+pub resolve-answers : (lim : Limits) (base ref : Bytes) → Decides (ResolveAnswers lim base ref) (resolveCall lim base ref)
+unfolding resolveCall resolved _>>=_ _>>_ need
+resolve-answers lim base ref = record { told = go (readAbsolute lim base) refl; only = only }
+  where
+    Answer : Type 0
+    Answer = ResolveAnswers lim base ref (resolveCall lim base ref)
+
+    go : (x : Res Cri) → readAbsolute lim base ≡ x → Answer
+    go (refused n k) e = rw e (resolve-8 e)
+    go (ok b) e = reads (readReference lim ref) refl
+      where
+        reads : (x : Res Reference) → readReference lim ref ≡ x → Answer
+        reads (refused n k) d = rw (e, d) (resolve-own e (own-reference lim ref n k d) d)
+        reads (ok r) d = fitted (fits lim (resolve b r)) refl
+          where
+            fitted : (t : Bool) → fits lim (resolve b r) ≡ t → Answer
+            fitted true f = rw (e, d, f) (resolve-done e d f)
+            fitted false f = rw (e, d, f) (resolve-9 e d f)
+
+    only : (u : Ruling) → ResolveAnswers lim base ref u → resolveCall lim base ref ≡ u
+    only _ (resolve-8 e) = rw e
+    only _ (resolve-own e h d) = rw (e, d)
+    only _ (resolve-9 e d f) = rw (e, d, f)
+    only _ (resolve-done e d f) = rw (e, d, f)
+
+-- ---- URI text
+
+pub text-answers : (lim : Limits) (bs : Bytes) → Decides (TextAnswers lim bs) (textCall lim bs)
+unfolding textCall printed readAbsolute given _>>=_
+text-answers lim bs = record { told = go (readReference lim bs) refl; only = only }
+  where
+    go : (x : Res Reference) → readReference lim bs ≡ x → TextAnswers lim bs (textCall lim bs)
+    go (refused n k) e = rw e (text-own (own-reference lim bs n k e) e)
+    go (ok r) e = opened (absolute r) refl
+      where
+        opened : (o : Option Cri) → absolute r ≡ o → TextAnswers lim bs (textCall lim bs)
+        opened none a = rw (e, a) (text-8 e a)
+        opened (some c) a = rw (e, a) (text-done e a)
+
+    only : (u : Ruling) → TextAnswers lim bs u → textCall lim bs ≡ u
+    only _ (text-own h e) = rw e
+    only _ (text-8 e a) = rw (e, a)
+    only _ (text-done e a) = rw (e, a)
+
+-- ---- options
+
+is-address : (a : Bytes) → IsAddress a → (eqb (length a) 4 || eqb (length a) 16) ≡ true
+is-address a (inl e) = rw e
+is-address a (inr e) = rw e
+
+address-is : (a : Bytes) → (eqb (length a) 4 || eqb (length a) 16) ≡ true → IsAddress a
+address-is a e = go (eqb (length a) 4) refl
+  where
+    go : (t : Bool) → eqb (length a) 4 ≡ t → IsAddress a
+    go true d = inl (eqb-true (length a) 4 d)
+    go false d = inr (eqb-true (length a) 16 (rw d at e))
+
+no-address : (a : Bytes) → (IsAddress a → ⊥) → (eqb (length a) 4 || eqb (length a) 16) ≡ false
+no-address a h = go (eqb (length a) 4 || eqb (length a) 16) refl
+  where
+    go : (t : Bool) → (eqb (length a) 4 || eqb (length a) 16) ≡ t → t ≡ false
+    go true d = absurd (h (address-is a d))
+    go false d = refl
+
+pub options-answers : (lim : Limits) (bs toAddress : Bytes) (toPort : ℕ)
+    → Decides (OptionsAnswers lim bs toAddress toPort) (optionsCall lim bs toAddress toPort)
+unfolding optionsCall requested readAbsolute given _>>=_ _>>_ need
+options-answers lim bs toAddress toPort = record { told = go (eqb (length toAddress) 4 || eqb (length toAddress) 16) refl; only = only }
+  where
+    Answer : Type 0
+    Answer = OptionsAnswers lim bs toAddress toPort (optionsCall lim bs toAddress toPort)
+
+    go : (t : Bool) → (eqb (length toAddress) 4 || eqb (length toAddress) 16) ≡ t → Answer
+    go false i = rw i (options-12 (λ a. true≢false (sym (is-address toAddress a) ∙ i)))
+    go true i = reads (readReference lim bs) refl
+      where
+        at : IsAddress toAddress
+        at = address-is toAddress i
+
+        reads : (x : Res Reference) → readReference lim bs ≡ x → Answer
+        reads (refused n k) e = rw (i, e) (options-own at (own-reference lim bs n k e) e)
+        reads (ok r) e = opened (absolute r) refl
+          where
+            opened : (o : Option Cri) → absolute r ≡ o → Answer
+            opened none a = rw (i, e, a) (options-8 at e a)
+            opened (some c) a = schemed (coapScheme (c .scheme)) refl
+              where
+                schemed : (o : Option SchemeEntry) → coapScheme (c .scheme) ≡ o → Answer
+                schemed none s = rw (i, e, a, s) (options-11-scheme {c = c} at (rw (e, a)) s)
+                schemed (some y) s = fragment (c .fragment) refl
+                  where
+                    fragment : (o : Option Bytes) → c .fragment ≡ o → Answer
+                    fragment none f = rw (i, e, a, s, ap absent f) (options-done {c = c} at (rw (e, a)) s f)
+                    fragment (some t) f = rw (i, e, a, s, ap absent f) (options-11-fragment {c = c} at (rw (e, a)) s f)
+
+    only : (u : Ruling) → OptionsAnswers lim bs toAddress toPort u → optionsCall lim bs toAddress toPort ≡ u
+    only _ (options-12 h) = rw (no-address toAddress h)
+    only _ (options-own h o e) = rw (is-address toAddress h, e)
+    only _ (options-8 h e a) = rw (is-address toAddress h, e, a)
+    only _ (options-11-scheme h e s) = rw (is-address toAddress h, e, s)
+    only _ (options-11-fragment h e s f) = rw (is-address toAddress h, e, s, ap absent f)
+    only _ (options-done h e s f) = rw (is-address toAddress h, e, s, ap absent f)
+
+-- ---- writing
+
+pub write-answers : (lim : Limits) (c : Components) (lent : Bytes) → Decides (WriteAnswers lim c lent) (writeCall lim c lent)
+unfolding writeCall written _>>=_ _>>_ need
+write-answers lim c lent = record { told = go (counted lim c) refl; only = only }
+  where
+    Answer : Type 0
+    Answer = WriteAnswers lim c lent (writeCall lim c lent)
+
+    go : (t : Bool) → counted lim c ≡ t → Answer
+    go false n = rw n (write-4-count n)
+    go true n = spanned (all (inside lent) (allTexts c)) refl
+      where
+        spanned : (t : Bool) → all (inside lent) (allTexts c) ≡ t → Answer
+        spanned false i = rw (n, i) (write-4-span n i)
+        spanned true i = judged (read lim (encode (mapParts (taken lent) c))) refl
+          where
+            judged : (x : Res Found) → read lim (encode (mapParts (taken lent) c)) ≡ x → Answer
+            judged (refused m k) e = rw (n, i, e) (write-own n i (numbers lim _ m k e) e)
+            judged (ok f) e = rw (n, i, e) (write-done n i e)
+
+    only : (u : Ruling) → WriteAnswers lim c lent u → writeCall lim c lent ≡ u
+    only _ (write-4-count n) = rw n
+    only _ (write-4-span n i) = rw (n, i)
+    only _ (write-own n i h e) = rw (n, i, e)
+    only _ (write-done n i e) = rw (n, i, e)
