@@ -119,11 +119,11 @@ fn put_result(base: &[u8], reference: &[u8], p: Parts, room: &mut [u8]) -> Done
 {
     let path = p.path;
     if SEGMENTS < path.count {
-        return outcomes::refused(RESULT);
+        return outcomes::refused(RESULT); // too many segments
     }
     let n = parts_length(p);
     if BYTES < n {
-        return outcomes::refused(RESULT);
+        return outcomes::refused(RESULT); // too many bytes
     }
     if room.len() < n {
         return outcomes::refused(ROOM);
