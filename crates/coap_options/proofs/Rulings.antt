@@ -23,7 +23,7 @@ use Rattle.rules.proofs.Reading.{meaning-said, canonical}
 use Rattle.rules.proofs.Standing.{read-size, stands}
 use Rattle.rules.proofs.Absolutes.{read-absolute}
 use Rattle.rules.proofs.OptionsBack.{address-short, labels-short, good-short}
-use Rattle.uri_parts.proofs.Pieces.{host-prints}
+use Rattle.addresses.proofs.AddressTexts.{address-at}
 use Rattle.schemes.specs.Schemes.{defaultPort}
 use Rattle.coap_values.specs.Values.{HostAsks, TextsAsk}
 use Rattle.coap_options.specs.Requests.{optionsAt, defaultRuling, numberRuling, openingRuling, AuthorityAsks, OpeningAsks, Asks}
@@ -110,7 +110,7 @@ full-asks bs e h = rw e at h
 
 module _ (bs : Bytes) where
   host-asks : (h : HostAt) → HostStands bs h → GoodHost (saidHost bs h) → HostAsks bs h
-  host-asks (addressAt at n) h g = (host-prints bs (addressAt at n) h g, address-short _ g .size)
+  host-asks (addressAt at n) h g = (address-at bs at n h g, address-short _ g .size)
   host-asks (labelsAt at n) h g =
       ((h .each, omega (arith, within-low 1 8 (length (contents bs at n)) (g .texts .count), length-contents bs at n)), labels-short (contents bs at n) (g .texts .each) (g .name) .size)
 

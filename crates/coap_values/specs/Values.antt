@@ -12,7 +12,7 @@ use Rattle.rules.specs.Address.{addressText}
 use Rattle.rules.specs.Options.{portBytes}
 use Rattle.rules.specs.Reader.{contents, Slot, unset, set, HostAt, addressAt, labelsAt}
 use Rattle.rules.specs.Standing.{RowAt}
-use Rattle.uri_parts.specs.Pieces.{HostPrints}
+use Rattle.addresses.specs.AddressAt.{AddressAt}
 use Rattle.coap_coding.specs.Coded.{Small, AllSmall}
 use Rattle.coap_values.specs.declared.Value.{Value}
 use Rattle.coap_values.specs.declared.Value.the-variants as ValueV
@@ -36,7 +36,7 @@ dotted ts = concat (map (λ (t : Bytes). dot ∷ t) ts)
 
 -- an address of 4 or 16 bytes, or labels, and at most 255 bytes in the option's value
 abbrev pub HostAsks : Bytes → HostAt → Type 0
-HostAsks bs (addressAt at n) = HostPrints bs (addressAt at n) × (length (addressText (part bs at n)) ≤ 255)
+HostAsks bs (addressAt at n) = AddressAt bs at n × (length (addressText (part bs at n)) ≤ 255)
 HostAsks bs (labelsAt at n) = (RowAt bs at n × (0 < n)) × (length (join dot (contents bs at n)) ≤ 255)
 
 -- segments or parameters

@@ -12,6 +12,7 @@ ghost use Rattle.rules.specs.Standing.{RowAt};
 ghost use Rattle.put.specs.Wrote.{Wrote};
 ghost use Rattle.reader.specs.Answers.{slotOf, hostOf, portOf};
 ghost use Rattle.coap_values.specs.Values.{hostValue, portValue, dotted, Valued, RowOf, HostAsks, TextsAsk};
+use addresses::put_address;
 use cbor::span_at;
 use put::put_big_endian;
 use put::put_byte;
@@ -19,7 +20,6 @@ use put::put_part;
 use reader::HostAt;
 use reader::Port;
 use reader::Slot;
-use uri_parts::put_address;
 
 // The value of an option that a request has at most once: unset, or how many bytes it has. They stand at the start of a slice.
 pub enum Value {

@@ -1,5 +1,5 @@
 // The library's calls. Each takes any bytes, and answers for all of them what its `ensures` says; the definitions named there are in
-// crates/rules/specs, how components are laid out in crates/components/specs, what a part of a slice is in crates/views/specs.
+// crates/rules/specs, how components are laid out in crates/components/specs, what a part of a slice is in crates/segment_view/specs.
 ghost use mathlib.Core.Path.{_≡_};
 ghost use lib.ListN.{length};
 ghost use Rattle.rules.specs.Calls.{outcome, after, writeCall, resolveCall, textCall, optionsCall};
@@ -40,12 +40,12 @@ pub use numbers::BYTES;
 pub use numbers::OPTIONS_ROOM;
 pub use numbers::TEXT_ROOM;
 
-// The views, whose contracts stand in crates/views. `segment` and `authority` give a part of a lent slice; `segment_number` and `authority_number`
-// of the same arguments tell the number of that call.
-pub use views::authority;
-pub use views::authority_number;
-pub use views::segment;
-pub use views::segment_number;
+// The views, whose contracts stand in crates/segment_view and crates/authority_view. `segment` and `authority` give a part of a lent
+// slice; `segment_number` and `authority_number` of the same arguments tell the number of that call.
+pub use authority_view::authority;
+pub use authority_view::authority_number;
+pub use segment_view::segment;
+pub use segment_view::segment_number;
 
 // Reads a CRI reference: 0 and its components; or a number from 1 to 7, and every component unset.
 // Texts and addresses are given by where they stand in the link.

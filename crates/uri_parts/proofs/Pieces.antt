@@ -1,22 +1,18 @@
 -- What each part of a URI text is, by what stands at its place.
-use Prim.Native.Nat.{ℕ, _+_, _≤_}
-use mathlib.Core.Path.{_≡_, sym, ap, _∙_, subst}
-use mathlib.Core.Bool.{true, _||_}
+use Prim.Native.Nat.{ℕ, _+_}
+use mathlib.Core.Path.{_≡_}
 use mathlib.Core.List.{[], _∷_, _++_, map}
 use mathlib.Core.Option.{Option, none, some}
-use lib.ListN.{length}
-use lib.Dec.{eqb}
-use borrow.Author.Tests.{eqb-true, eq-eqb, ne-eqb}
 use Rattle.rules.specs.Bytes.{Bytes, part, dot, colon, slash, question, hash, ampersand, join}
 use Rattle.rules.specs.Rules.{schemes, schemeIn}
 use Rattle.rules.specs.Reader.{contents, Slot, unset, set, HostAt, addressAt, labelsAt, SchemeAt, noScheme, numberAt, nameAt}
 use Rattle.rules.specs.Meaning.{saidTexts, saidText, saidHost, saidScheme}
 use Rattle.rules.specs.Numeral.{decimal}
-use Rattle.rules.specs.Address.{ipv4Text, ipv6Text, leftBracket, rightBracket, addressText}
+use Rattle.rules.specs.Address.{addressText}
 use Rattle.rules.specs.Valid.{GoodHost}
 use Rattle.rules.specs.Text.{Label, Segment, Parameter, Fragment, escape, marked, entryName, schemeText, hostText, pathText, queryText}
 use Rattle.rules.specs.Standing.{HostStands}
-use Rattle.rules.proofs.Tools.{or-right, cond-yes, cond-no, length-part}
+use Rattle.addresses.proofs.AddressTexts.{address-at}
 use Rattle.uri_parts.specs.Pieces.{schemePiece, hostPiece, portPiece, pathPiece, queryPiece, fragmentPiece, HostPrints}
 
 -- ---- scheme
@@ -36,21 +32,7 @@ module _ (bs : Bytes) where
 
 -- ---- host and port
 
-pub sixteen : (n : ℕ) → (n ≡ 4 → ⊥) → (eqb n 4 || eqb n 16) ≡ true → n ≡ 16
-sixteen n k h = eqb-true _ _ (or-right (eqb n 4) _ h (ne-eqb n 4 k))
-
 module _ (bs : Bytes) where
-  pub ipv4-piece : (from n : ℕ) → n ≡ 4 → from + n ≤ length bs → ipv4Text (part bs from 4) ≡ addressText (part bs from n)
-  unfolding addressText
-  ipv4-piece from n e h = ap (λ (k : ℕ). ipv4Text (part bs from k)) (sym e) ∙ sym (cond-yes _ _ _ (eq-eqb _ _ (length-part bs from n h ∙ e)))
-
-  pub ipv6-piece : (from n : ℕ) → (n ≡ 4 → ⊥) → (eqb n 4 || eqb n 16) ≡ true → from + n ≤ length bs
-      → (leftBracket ∷ []) ++ (ipv6Text (part bs from 16) ++ (rightBracket ∷ [])) ≡ addressText (part bs from n)
-  unfolding addressText
-  ipv6-piece from n k s h =
-      ap (λ (k : ℕ). leftBracket ∷ (ipv6Text (part bs from k) ++ (rightBracket ∷ []))) (sym (sixteen n k s))
-      ∙ sym (cond-no _ _ _ (ne-eqb _ _ (λ e. k (sym (length-part bs from n h) ∙ e))))
-
   pub host-address : {x : HostAt} {at n : ℕ} → x ≡ addressAt at n → (slash ∷ []) ++ addressText (part bs at n) ≡ hostPiece (saidHost bs x)
   unfolding hostText
   host-address e = rw e
@@ -61,7 +43,7 @@ module _ (bs : Bytes) where
 
 -- what is known of a host in an accepted input
 pub host-prints : (bs : Bytes) (h : HostAt) → HostStands bs h → GoodHost (saidHost bs h) → HostPrints bs h
-host-prints bs (addressAt at n) h g = (h, subst (λ (k : ℕ). (eqb k 4 || eqb k 16) ≡ true) (length-part bs at n h) (g .size))
+host-prints bs (addressAt at n) h g = address-at bs at n h g
 host-prints bs (labelsAt at n) h g = h .each
 
 pub port-none : {p : Option ℕ} → p ≡ none → [] ≡ portPiece p

@@ -1,17 +1,15 @@
 -- The parts of a URI text, and what is known of where they stand in an accepted input.
-use Prim.Native.Nat.{ℕ, _+_, _^_, _≤_, _<_}
-use mathlib.Core.Path.{_≡_}
-use mathlib.Core.Bool.{true, _||_}
+use Prim.Native.Nat.{ℕ, _^_, _<_}
 use mathlib.Core.List.{List, [], _∷_}
 use mathlib.Core.Option.{Option, none, some, Option·map}
 use lib.ListN.{length}
-use lib.Dec.{eqb}
 use Rattle.rules.specs.Bytes.{Bytes, colon, slash, question, hash}
 use Rattle.rules.specs.Model.{Scheme, Host, elements}
 use Rattle.rules.specs.Reader.{Slot, unset, set, HostAt, addressAt, labelsAt}
 use Rattle.rules.specs.Numeral.{decimal}
 use Rattle.rules.specs.Text.{Fragment, escape, marked, schemeText, hostText, pathText, queryText}
 use Rattle.rules.specs.Standing.{RowAt}
+use Rattle.addresses.specs.AddressAt.{AddressAt}
 
 -- ---- RULES 6.1: the parts
 
@@ -42,9 +40,9 @@ fragmentPiece f = marked hash (Option·map (escape Fragment) f)
 
 -- ---- what is known of the positions
 
--- an address of 4 or 16 bytes inside the input, or labels
+-- an address, or labels
 abbrev pub HostPrints : Bytes → HostAt → Type 0
-HostPrints bs (addressAt at n) = (at + n ≤ length bs) × ((eqb n 4 || eqb n 16) ≡ true)
+HostPrints bs (addressAt at n) = AddressAt bs at n
 HostPrints bs (labelsAt at n) = RowAt bs at n
 
 -- segments or parameters

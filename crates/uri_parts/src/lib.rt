@@ -1,22 +1,17 @@
 // The parts of a URI text, each measured and written from where it stands in an input that was accepted.
 ghost use Prim.Native.Nat.{_+_, _≤_};
 ghost use mathlib.Core.Path.{_≡_};
-ghost use mathlib.Core.Bool.{true, _||_};
 ghost use lib.ListN.{length};
-ghost use lib.Dec.{eqb};
-ghost use Rattle.rules.specs.Bytes.{Bytes, part};
+ghost use Rattle.rules.specs.Bytes.{Bytes};
 ghost use Rattle.rules.specs.Model.{limits};
 ghost use Rattle.rules.specs.Meaning.{saidTexts, saidText, saidHost, saidScheme};
 ghost use Rattle.rules.specs.Valid.{GoodPort};
-ghost use Rattle.rules.specs.Address.{addressText};
 ghost use Rattle.rules.specs.Standing.{SchemeStands, TextStands};
 ghost use Rattle.put.specs.Wrote.{Wrote};
 ghost use Rattle.reader.specs.Answers.{slotOf, hostOf, portOf, schemeOf};
 ghost use Rattle.uri_parts.specs.Pieces.{schemePiece, hostPiece, portPiece, pathPiece, queryPiece, fragmentPiece, HostPrints, TextsPrint, Short};
-use ipv4::ipv4_length;
-use ipv4::put_ipv4;
-use ipv6::ipv6_length;
-use ipv6::put_ipv6;
+use addresses::address_length;
+use addresses::put_address;
 use numeral::decimal_length;
 use numeral::put_decimal;
 use put::put_byte;
@@ -65,32 +60,6 @@ pub fn put_scheme(room: &mut [u8], at: usize, s: &[u8], scheme: SchemeAt) -> usi
 }
 
 // ---- authority; the "/" before the host is the last of "://"
-
-// How long the text of an address is.
-fn address_length(s: &[u8], from: usize, n: usize) -> usize
-    requires { ⌜ (from + n ≤ length (now s)) × ((eqb n 4 || eqb n 16) ≡ true) ⌝ }
-    requires { ⌜ Short (addressText (part (now s) from n)) ⌝ }
-    ensures { λ r. ⌜ r ≡ length (addressText (part (now (s .entry)) from n)) ⌝ }
-{
-    if n == 4 {
-        return ipv4_length(s, from);
-    }
-    ipv6_length(s, from) + 2
-}
-
-// The text of an address of 4 or 16 bytes, the latter in brackets.
-pub fn put_address(room: &mut [u8], at: usize, s: &[u8], from: usize, n: usize) -> usize
-    requires { ⌜ (from + n ≤ length (now s)) × ((eqb n 4 || eqb n 16) ≡ true) ⌝ }
-    requires { ⌜ at + length (addressText (part (now s) from n)) ≤ length (now room) ⌝ }
-    ensures { λ r. ⌜ Wrote (now (room .entry)) at (addressText (part (now (s .entry)) from n)) (now (room .exit)) r ⌝ }
-{
-    if n == 4 {
-        return put_ipv4(room, at, s, from);
-    }
-    let p = put_byte(room, at, b'[');
-    let q = put_ipv6(room, p, s, from);
-    put_byte(room, q, b']')
-}
 
 // How long a "/" and a host are.
 pub fn host_length(s: &[u8], host: HostAt) -> usize

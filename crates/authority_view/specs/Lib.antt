@@ -1,0 +1,2 @@
+-- Parts of one of two slices, and what the code's answers say of them.
+pub mod Shown
