@@ -170,8 +170,7 @@ fn argument_at(s: &[u8], at: usize, info: u8) -> Argument
             next: at + 1,
         },
         24..=27 => long_at(s, at, info),
-        28..=31 => Argument::Refused(HEAD),
-        _ => Argument::Refused(HEAD), // more than five bits
+        28..=31 | _ => Argument::Refused(HEAD),
     }
 }
 

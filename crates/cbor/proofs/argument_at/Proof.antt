@@ -9,10 +9,7 @@ returns : tie.Need-returns
 returns c = λ k. argument-small k _ _ _ (c .if1 .taken) (c .before .before .pre)
 
 returns-3 : tie.Need-returns-3
-returns-3 c = λ k. argument-reserved k _ _ _ (omega arith)
-
-returns-4 : tie.Need-returns-4
-returns-4 c = λ k. argument-reserved k _ _ _ (omega arith)
+returns-3 c = λ k. let i = c .before .before .before .args .info in argument-reserved k i _ _ (omega arith)
 
 pub argument-at-spec : {M : Type 1} → statement M
-argument-at-spec = tie.close (tie.spec (λ c. search needs) (λ c κs. search needs) returns (λ c. search needs) returns-3 returns-4)
+argument-at-spec = tie.close (tie.spec (λ c. search needs) (λ c κs. search needs) returns (λ c. search needs) returns-3)
