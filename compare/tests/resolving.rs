@@ -259,7 +259,7 @@ fn base_of(lengths: &[usize]) -> Vec<u8> {
     [bytes("83 20 81 61 68"), texts(lengths)].concat()
 }
 
-/// A reference that discards so many segments and appends such a path; 2 bytes and the path.
+/// A reference that discards `discard` segments and appends a path of texts of these lengths; 2 bytes and the path.
 fn appending(discard: u8, lengths: &[usize]) -> Vec<u8> {
     [vec![0x82], vec![discard], texts(lengths)].concat()
 }

@@ -32,7 +32,7 @@ pub fn damage_one_head(random: &mut Random, encoded: &mut Encoded) {
 pub fn damage_head_at(random: &mut Random, bytes: &mut Vec<u8>, at: usize) {
     let major = bytes[at] >> 5;
     let end = at + head_length(bytes[at]);
-    // How many bytes a number has in a head, and the least number that needs so many.
+    // How many bytes a number has in a head, and the least number that needs them.
     let (width, least): (_, u64) = random.pick(&[(1, 24), (2, 1 << 8), (4, 1 << 16), (8, 1 << 32)]);
     match random.below(8) {
         0 => drop(bytes.splice(at..end, [(major << 5) | (28 + random.below(4) as u8)])),

@@ -71,7 +71,7 @@ pub fn head(major: u8, argument: u64) -> Vec<u8> {
     head_of(major, argument, bytes)
 }
 
-/// The head with the argument in so many bytes: 0, 1, 2, 4 or 8.
+/// The head with the argument in `bytes` bytes: 0, 1, 2, 4 or 8.
 pub fn head_of(major: u8, argument: u64, bytes: usize) -> Vec<u8> {
     let info = match bytes {
         0 => argument as u8,

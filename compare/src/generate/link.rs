@@ -214,7 +214,7 @@ const MARKS: [&str; 30] = [
     ":80", "@", "[", "]", "=", "+", " ", ".", "..", "~", "a", "a", "b", "A", "",
 ];
 
-/// At least so many pieces of a text, each a mark or a character that has some byte.
+/// At least `least` pieces of a text, each a mark or a character that has some byte.
 fn pieces(random: &mut Random, least: usize, bytes: Bytes) -> Text {
     let count = least + random.index(5);
     let piece = |_| {

@@ -425,7 +425,7 @@ impl<'r> Maker<'r> {
         labels.into_iter().map(Item::Text).collect()
     }
 
-    /// So many labels of `total` bytes together, their dots counted, which so many labels can have.
+    /// `count` labels of `total` bytes together, their dots counted, which that number of labels can have.
     pub fn name(&mut self, total: usize, count: usize) -> Vec<Vec<u8>> {
         let mut lengths = vec![1; count];
         let mut left = total - (2 * count - 1);
@@ -457,7 +457,7 @@ impl<'r> Maker<'r> {
         self.array_item(texts)
     }
 
-    /// A path of so many short segments.
+    /// A path of `count` short segments.
     pub fn segments(&mut self, count: usize) -> Item {
         Item::Array((0..count).map(|_| self.segment(true)).collect())
     }

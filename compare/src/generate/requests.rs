@@ -105,7 +105,7 @@ fn sized(random: &mut Random) -> Link {
     link
 }
 
-/// Labels of so many bytes together, their dots counted.
+/// Labels of `total` bytes together, their dots counted.
 fn name(random: &mut Random, total: usize) -> Vec<Text> {
     let least = total / 64 + 1;
     let most = total.div_ceil(2).min(8);
