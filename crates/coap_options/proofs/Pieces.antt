@@ -43,7 +43,7 @@ pub deltas-are : {h p s x y z : Bool} {a b c : ℕ} → x ≡ h → a ≡ number
     → DeltasAre h p s (record { port = 7 - a; path = 11 - b; query = 15 - c })
 deltas-are i j k l m n = record { port = cc; path = cc; query = cc }
 
-pub deltas-small : {h p s : Bool} {d : Deltas} → DeltasAre h p s d → DeltasSmall d
+deltas-small : {h p s : Bool} {d : Deltas} → DeltasAre h p s d → DeltasSmall d
 deltas-small i = record { port = omega arith; path = omega arith; query = omega arith }
 
 -- ---- an option that is set or not
@@ -141,6 +141,14 @@ set-present src (ValueV.Is n) = refl
 
 -- ---- a request whose values and texts were found
 
+-- what measuring and writing it ask, and that its pieces are w
+pub record Known (hostSrc portSrc bs : Bytes) (r : Request) (d : Deltas) (w : Bytes) : Type 0 where
+  pub stands : Stands bs r
+  pub small : DeltasSmall d
+  pub host : Inside hostSrc (r .host)
+  pub port : Inside portSrc (r .port)
+  pub pieces : piecesAt hostSrc portSrc bs r d ≡ w
+
 module _ (hostSrc portSrc bs : Bytes) (r : Request) (d : Deltas) (is : DeltasAre (isSet (r .host)) (isSet (r .port)) (ltb 0 (r .path .count)) d) where
   pieces-from : let S = contents bs (r .path .at) (r .path .count) in let Q = contents bs (r .query .at) (r .query .count) in
       piecesAt hostSrc portSrc bs r d ≡ optionsFrom 0 (one 3 (valueIn hostSrc (r .host)) ++ one 7 (valueIn portSrc (r .port)) ++ map (option 11) S ++ map (option 15) Q)
@@ -152,9 +160,16 @@ module _ (hostSrc portSrc bs : Bytes) (r : Request) (d : Deltas) (is : DeltasAre
   module _ (host : HostAt) (port : ℕ) (path query : Slot) (toAddress : Bytes) (toPort : ℕ)
       (h : Valued hostSrc (r .host) (hostValue (saidHost bs host) toAddress)) (p : Valued portSrc (r .port) (portValue port toPort))
       (s : RowOf bs (r .path .at) (r .path .count) (normalPath (elements (saidTexts bs path)))) (q : RowOf bs (r .query .at) (r .query .count) (elements (saidTexts bs query))) where
-    pub stands : Stands bs r
-    stands = record { host = h .small; port = p .small; path = (s .stand, s .small); query = (q .stand, q .small) }
-
-    pub pieces-are : piecesAt hostSrc portSrc bs r d ≡ optionsAt bs host port path query toAddress toPort
+    pieces-are : piecesAt hostSrc portSrc bs r d ≡ optionsAt bs host port path query toAddress toPort
     unfolding optionsAt
     pieces-are = pieces-from ∙ rw (h .says, p .says, s .says, q .says, host-one (saidHost bs host) toAddress, port-one port toPort)
+
+    pub known : Known hostSrc portSrc bs r d (optionsAt bs host port path query toAddress toPort)
+    known =
+        record {
+          stands = record { host = h .small; port = p .small; path = (s .stand, s .small); query = (q .stand, q .small) };
+          small = deltas-small is;
+          host = h .inside;
+          port = p .inside;
+          pieces = pieces-are;
+        }
