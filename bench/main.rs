@@ -1,4 +1,5 @@
 // Measures the proved functions against plain Rust, after a comparison of their answers. Arguments: the names of the parts to measure (none: all).
+use compare::refusal::Refusal;
 use std::hint::black_box;
 use std::time::Instant;
 
@@ -44,6 +45,14 @@ impl Random {
 pub fn room() -> &'static mut [u8] {
     static mut ROOM: [u8; 1024] = [0; 1024];
     unsafe { (&raw mut ROOM).as_mut().unwrap() }
+}
+
+// An answer as one number: 256 times the length written; or a refusal's number and 256 times its place.
+pub fn packed(answer: Result<usize, Refusal>) -> u64 {
+    match answer {
+        Ok(length) => 256 * length as u64,
+        Err(refusal) => refusal.number() as u64 + 256 * refusal.place as u64,
+    }
 }
 
 // How many calls a turn makes, at least.

@@ -1,6 +1,6 @@
 // The options of requests.
 use crate::links::{SEGMENTS, SIZES};
-use crate::{agree, compare, links, Call, Random};
+use crate::{agree, compare, links, packed, Call, Random};
 use compare::options::{options, ENOUGH};
 use compare::reader::{self, Authority, Host, Opening, Scheme};
 
@@ -22,13 +22,9 @@ fn rattle((s, address, port): &Input) -> u64 {
 }
 
 fn rust((s, address, port): &Input) -> u64 {
-    match options(s, address, *port, options_room()) {
-        Ok(length) => 256 * length as u64,
-        Err(number) => number as u64,
-    }
+    packed(options(s, address, *port, options_room()))
 }
 
-// The number, and 256 times the length.
 const CALLS: [Call<Input, u64>; 2] = [("rattle", rattle), ("rust", rust)];
 
 // The answer, and the whole room.

@@ -1,6 +1,6 @@
 // URI texts: of links, and of references resolved against a base.
 use crate::links::{SEGMENTS, SIZES};
-use crate::{agree, compare, links, resolve, room, Call};
+use crate::{agree, compare, links, packed, resolve, room, Call};
 use compare::uri_text::{longest, uri_text};
 
 extern "C" {
@@ -21,16 +21,12 @@ fn rattle_text(s: &[u8], size: usize) -> u64 {
 }
 
 fn rust_text(s: &[u8], size: usize) -> u64 {
-    match uri_text(s, &mut text_room()[..size]) {
-        Ok(length) => 256 * length as u64,
-        Err(number) => number as u64,
-    }
+    packed(uri_text(s, &mut text_room()[..size]))
 }
 
 // A link, and the length of the room that is lent.
 type Input = (Vec<u8>, usize);
 
-// The number, and 256 times the length.
 const CALLS: [Call<Input, u64>; 2] = [("rattle", |(s, size)| rattle_text(s, *size)), ("rust", |(s, size)| rust_text(s, *size))];
 
 // The answer of resolving, and 2^32 times that of printing what it wrote, or 0 where it wrote nothing.

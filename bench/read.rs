@@ -1,5 +1,5 @@
-// Reading links: number and components.
-use crate::{agree, compare, links, Call};
+// Reading links: the refusal, or the components.
+use crate::{agree, compare, links, packed, Call};
 use compare::generate::Generator;
 use compare::reader;
 
@@ -18,7 +18,7 @@ fn rattle(s: &Input) -> u64 {
 fn rust(s: &Input) -> u64 {
     match std::hint::black_box(reader::read(s)) {
         Ok(_) => 0,
-        Err(refusal) => refusal.number() as u64,
+        Err(refusal) => packed(Err(refusal)),
     }
 }
 
@@ -53,7 +53,7 @@ pub fn measure() {
         agree(input, &CALLS);
         agree(input, &SEGMENTS);
     }
-    println!("read: the numbers and the segments agree");
+    println!("read: the numbers, the places and the segments agree");
     compare("mixed links", &[10_000], links::mixed, &CALLS);
     compare("requests", &[10_000], requests, &CALLS);
     compare("segments", &links::SEGMENTS, segmented, &CALLS);

@@ -1,6 +1,6 @@
 // References resolved against a base.
 use crate::links::{SEGMENTS, SIZES};
-use crate::{agree, compare, links, room, Call};
+use crate::{agree, compare, links, packed, room, Call};
 use compare::resolver;
 
 extern "C" {
@@ -16,13 +16,9 @@ pub fn rattle((base, reference): &Input) -> u64 {
 }
 
 pub fn rust((base, reference): &Input) -> u64 {
-    match resolver::resolve(base, reference, room()) {
-        Ok(length) => 256 * length as u64,
-        Err(number) => number as u64,
-    }
+    packed(resolver::resolve(base, reference, room()))
 }
 
-// The number, and 256 times the length.
 const CALLS: [Call<Input, u64>; 2] = [("rattle", rattle), ("rust", rust)];
 
 // The answer, and the whole room.

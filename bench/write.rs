@@ -2,6 +2,7 @@
 use crate::links::SIZES;
 use crate::{agree, compare, links, room, Call};
 use compare::reader::{self, Reference, Texts};
+use compare::refusal::Refusal;
 use compare::writer::{self, Components, Span};
 
 extern "C" {
@@ -37,7 +38,7 @@ impl<const MAX: usize> Spans<MAX> {
     }
 }
 
-fn write(reference: &Reference, input: &[u8], room: &mut [u8]) -> Result<usize, u8> {
+fn write(reference: &Reference, input: &[u8], room: &mut [u8]) -> Result<usize, Refusal> {
     let path = reference.path.as_ref().map(|p| Spans::of(input, p));
     let query = reference.query.as_ref().map(|q| Spans::of(input, q));
     let labels = match &reference.opening {

@@ -6,6 +6,7 @@ pub mod lines;
 pub mod meant;
 pub mod options;
 pub mod reader;
+pub mod refusal;
 pub mod resolver;
 pub mod uri_text;
 pub mod views;

@@ -5,6 +5,7 @@ mod components;
 use crate::meant::{self, meant};
 use crate::options::options;
 use crate::reader::read;
+use crate::refusal::Refusal;
 use crate::resolver::resolve;
 use crate::uri_text::{longest, uri_text};
 use crate::views;
@@ -68,7 +69,7 @@ fn read_call(words: &mut Words) -> Answer {
     let input = words.bytes()?;
     Ok(match read(&input) {
         Ok(reference) => format!("0{}", components::said(&reference, &hex)),
-        Err(refusal) => refusal.number().to_string(),
+        Err(refusal) => refused(refusal),
     })
 }
 
@@ -146,7 +147,7 @@ impl OptionsRequest {
 fn same_call(words: &mut Words) -> Answer {
     let first = text_of(&words.bytes()?);
     let second = text_of(&words.bytes()?);
-    let number = |text: &Result<_, u8>| *text.as_ref().err().unwrap_or(&0);
+    let number = |text: &Result<_, Refusal>| text.as_ref().err().map_or(0, |r| r.number());
     let same = if first.is_ok() && first == second {
         "equal"
     } else {
@@ -155,8 +156,8 @@ fn same_call(words: &mut Words) -> Answer {
     Ok(format!("{} {} {same}", number(&first), number(&second)))
 }
 
-/// The URI text with room enough, or the refusal number.
-fn text_of(input: &[u8]) -> Result<Vec<u8>, u8> {
+/// The URI text with room enough.
+fn text_of(input: &[u8]) -> Result<Vec<u8>, Refusal> {
     let mut room = vec![0; longest(input.len())];
     let length = uri_text(input, &mut room)?;
     room.truncate(length);
@@ -175,18 +176,29 @@ fn authority_call(words: &mut Words) -> Answer {
     Ok(viewed(views::authority(&reference, &base)))
 }
 
+/// What a refusal opens an answer with: its number, and of 1 to 8 also its place.
+fn refused(refusal: Refusal) -> String {
+    match refusal.number() {
+        number @ 1..=8 => format!("{number} at {}", refusal.place),
+        number => number.to_string(),
+    }
+}
+
 /// The answer of a call that gives a view.
-fn viewed((number, view): (u8, &[u8])) -> String {
-    format!("{number} {}", hex(view))
+fn viewed(view: Result<&[u8], Refusal>) -> String {
+    match view {
+        Ok(view) => format!("0 {}", hex(view)),
+        Err(refusal) => format!("{} -", refused(refusal)),
+    }
 }
 
 /// The answer of a call that writes to a room of this length: its number, what it wrote, and whether it kept every other byte.
-fn written(length: usize, call: impl FnOnce(&mut [u8]) -> Result<usize, u8>) -> String {
+fn written(length: usize, call: impl FnOnce(&mut [u8]) -> Result<usize, Refusal>) -> String {
     let before: Vec<u8> = (0..length).map(|place| place as u8 ^ 0xA5).collect();
     let mut room = before.clone();
     let (number, length) = match call(&mut room) {
-        Ok(length) => (0, length),
-        Err(number) => (number, 0),
+        Ok(length) => ("0".to_string(), length),
+        Err(refusal) => (refused(refusal), 0),
     };
     let kept = if room[length..] == before[length..] {
         "kept"

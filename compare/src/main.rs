@@ -15,7 +15,7 @@ const SEED: u64 = 1;
 const COUNT: u64 = 300_000;
 const USAGE: &str = "usage: compare [SEED [COUNT]]
        compare vectors REQUESTS ANSWERS
-       compare round-trip REQUESTS
+       compare round-trip REQUESTS..
        compare accepted CALL SEED COUNT
        compare answer
        compare meant";
@@ -38,7 +38,7 @@ fn run(words: &[&str]) -> Result<(), String> {
         ["meant"] => each_line(lines::meant_by).map_err(|e| e.to_string()),
         ["accepted", call, seed, count] => tell_accepted(call, number(seed)?, number(count)?),
         ["vectors", requests, answers] => compare_vectors(requests, answers),
-        ["round-trip", requests] => compare_round_trip(requests),
+        ["round-trip", ref requests @ ..] if !requests.is_empty() => compare_round_trip(requests),
         [] => compare_generated(SEED, COUNT),
         [seed] => compare_generated(number(seed)?, COUNT),
         [seed, count] => compare_generated(number(seed)?, number(count)?),
@@ -109,13 +109,15 @@ fn compare_vectors(requests: &str, answers: &str) -> Result<(), String> {
     Ok(())
 }
 
-/// Has the Rust and the program write what they read, and compares it with each accepted input of the stored `read` requests.
-fn compare_round_trip(requests: &str) -> Result<(), String> {
-    let cases: Vec<Case> = stored_lines(requests)?
-        .into_iter()
-        .filter_map(round_trip)
-        .flatten()
-        .collect();
+/// Has the Rust and the program write what they read, and compares it with each accepted input of the stored `read` requests. One of the
+/// files has to have such an input.
+fn compare_round_trip(requests: &[&str]) -> Result<(), String> {
+    let mut cases = Vec::new();
+    for name in requests {
+        let lines = stored_lines(name)?.into_iter();
+        cases.extend(lines.filter_map(round_trip).flatten());
+    }
+    let requests = requests.join(" ");
     if cases.is_empty() {
         return Err(format!("{requests}: no accepted input"));
     }

@@ -7,15 +7,8 @@
 
 use crate::encoder::{Buffer, Encoder, Meter, Put};
 use crate::reader::{read, Host, Reference, Scheme, MAX_INPUT};
-use crate::resolver::BASE;
+use crate::refusal::{Reason, Refusal};
 use crate::uri_text::Short;
-use crate::writer::ROOM;
-
-/// The number of options asked of a scheme that is a text, or where a fragment is set.
-pub const COAP: u8 = 11;
-
-/// The number of a destination address that has not 4 or 16 bytes.
-pub const DESTINATION: u8 = 12;
 
 /// A length that the options of no reference exceed.
 pub const ENOUGH: usize = 2 * MAX_INPUT;
@@ -25,19 +18,19 @@ const URI_PORT: u8 = 7;
 const URI_PATH: u8 = 11;
 const URI_QUERY: u8 = 15;
 
-/// Writes the options of a request to this destination to the start of `room` and gives their length; or gives the refusal number.
-pub fn options(input: &[u8], address: &[u8], port: u16, room: &mut [u8]) -> Result<usize, u8> {
+/// Writes the options of a request to this destination to the start of `room` and gives their length.
+pub fn options(input: &[u8], address: &[u8], port: u16, room: &mut [u8]) -> Result<usize, Refusal> {
     if !matches!(address.len(), 4 | 16) {
-        return Err(DESTINATION);
+        return Err(Reason::Destination.into());
     }
     // What is read is large, so it is borrowed and not moved.
     let reference = read(input);
-    let reference = reference.as_ref().map_err(|refusal| refusal.number())?;
+    let reference = reference.as_ref().map_err(|&refusal| refusal)?;
     let request = Request::of(reference, address, port)?;
     let mut meter = Meter::default();
     request.encode(&mut meter);
     let length = meter.length();
-    let written = room.get_mut(..length).ok_or(ROOM)?;
+    let written = room.get_mut(..length).ok_or(Reason::Room)?;
     let encoded = request.encode(&mut Buffer::new(written));
     encoded.expect("the options are as long as was measured");
     Ok(length)
@@ -56,10 +49,10 @@ struct Request<'r, 'a> {
 impl<'r, 'a> Request<'r, 'a> {
     /// What a reference asks of a destination; or 8 or 11.
     #[inline]
-    fn of(reference: &'r Reference<'a>, address: &[u8], port: u16) -> Result<Self, u8> {
-        let (scheme, authority) = reference.absolute().ok_or(BASE)?;
+    fn of(reference: &'r Reference<'a>, address: &[u8], port: u16) -> Result<Self, Reason> {
+        let (scheme, authority) = reference.absolute().ok_or(Reason::Base)?;
         let (Scheme::Number(scheme), None) = (scheme, reference.fragment) else {
-            return Err(COAP);
+            return Err(Reason::Coap);
         };
         let own_port = authority.port.unwrap_or(default_port(scheme));
         let mut request = Request {

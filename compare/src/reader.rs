@@ -5,6 +5,7 @@
 
 #![forbid(unsafe_code)]
 
+use crate::refusal::{Reason, Refusal};
 use std::ops::{Deref, RangeInclusive};
 
 pub const MAX_INPUT: usize = 1024;
@@ -32,32 +33,6 @@ pub const KNOWN_SCHEMES: [(u8, &str); 6] = [
     (8, "coap+ws"),
     (9, "coaps+ws"),
 ];
-
-/// Why an input is refused; the value is the refusal number.
-#[derive(Clone, Copy, Debug, PartialEq, Eq)]
-#[repr(u8)]
-pub enum Reason {
-    Cut = 1,
-    Form = 2,
-    Head = 3,
-    Limit = 4,
-    Text = 5,
-    Rule = 6,
-    Tail = 7,
-}
-
-/// A refusal and its place: the first byte of the item at fault, or the input's length where that byte is missing.
-#[derive(Clone, Copy, Debug, PartialEq, Eq)]
-pub struct Refusal {
-    pub reason: Reason,
-    pub place: usize,
-}
-
-impl Refusal {
-    pub fn number(self) -> u8 {
-        self.reason as u8
-    }
-}
 
 #[derive(Clone, Debug, PartialEq, Eq)]
 pub struct Reference<'a> {
@@ -185,10 +160,7 @@ impl<const MAX: usize> std::fmt::Debug for Texts<'_, MAX> {
 /// Reads `input` as one reference with nothing after it.
 pub fn read(input: &[u8]) -> Result<Reference<'_>, Refusal> {
     if input.len() > MAX_INPUT {
-        return Err(Refusal {
-            reason: Reason::Limit,
-            place: MAX_INPUT,
-        });
+        return Err(Reason::Limit.at(MAX_INPUT));
     }
     let mut reader = Reader {
         rest: input,
@@ -249,10 +221,7 @@ impl Item {
     }
 
     fn refuse(self, reason: Reason) -> Refusal {
-        Refusal {
-            reason,
-            place: self.place,
-        }
+        reason.at(self.place)
     }
 }
 
@@ -425,19 +394,13 @@ impl<'a> Reader<'a> {
         if self.rest.is_empty() {
             return Ok(());
         }
-        Err(Refusal {
-            reason: Reason::Tail,
-            place: self.place(),
-        })
+        Err(Reason::Tail.at(self.place()))
     }
 
     /// The next item's first byte.
     fn item(&mut self) -> Result<Item, Refusal> {
         let place = self.place();
-        let (&first, rest) = self.rest.split_first().ok_or(Refusal {
-            reason: Reason::Cut,
-            place,
-        })?;
+        let (&first, rest) = self.rest.split_first().ok_or(Reason::Cut.at(place))?;
         self.rest = rest;
         Ok(Item { first, place })
     }

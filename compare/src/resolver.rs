@@ -7,25 +7,19 @@
 
 use crate::encoder::{items_after, Buffer, Encoder, Meter, Put, NEGATIVE, NULL, TEXT};
 use crate::reader::{read, Discard, Opening, Reference, Scheme, MAX_INPUT, MAX_SEGMENTS};
-use crate::writer::ROOM;
+use crate::refusal::{Reason, Refusal};
 
-/// The number of a base that the reader refuses or that is not absolute, and of a text or options asked of a reference that is not
-/// absolute.
-pub const BASE: u8 = 8;
-
-/// The number of a result over its sizes.
-pub const RESULT: u8 = 9;
-
-/// Writes the resolved CRI to the start of `room` and gives its length; or gives the refusal number.
-pub fn resolve(base: &[u8], reference: &[u8], room: &mut [u8]) -> Result<usize, u8> {
+/// Writes the resolved CRI to the start of `room` and gives its length.
+pub fn resolve(base: &[u8], reference: &[u8], room: &mut [u8]) -> Result<usize, Refusal> {
     // What is read is large, so it is borrowed and not moved.
     let base = read(base);
-    let base = base.as_ref().ok().and_then(Cri::base).ok_or(BASE)?;
+    let base = base.as_ref().map_err(|refusal| refusal.of_base())?;
+    let base = Cri::base(base).ok_or(Reason::Base)?;
     let reference = read(reference);
-    let reference = reference.as_ref().map_err(|refusal| refusal.number())?;
+    let reference = reference.as_ref().map_err(|&refusal| refusal)?;
     let result = base.resolved(reference);
-    let length = result.length().ok_or(RESULT)?;
-    let written = room.get_mut(..length).ok_or(ROOM)?;
+    let length = result.length().ok_or(Reason::Result)?;
+    let written = room.get_mut(..length).ok_or(Reason::Room)?;
     let encoded = result.encode(&mut Buffer::new(written));
     encoded.expect("the encoding is as long as was measured");
     Ok(length)

@@ -7,23 +7,22 @@
 
 use crate::encoder::{Buffer, Encoder};
 use crate::reader::{read, Host, Reference, MAX_LABELS, MAX_PARAMETERS, MAX_SEGMENTS};
-use crate::resolver::BASE;
-use crate::writer::ROOM;
+use crate::refusal::{Reason, Refusal};
 
 /// A length that the text of an encoding of `length` bytes never exceeds.
 pub const fn longest(length: usize) -> usize {
     3 * length + 13
 }
 
-/// Writes the text to the start of `room` and gives its length; or gives the refusal number.
-pub fn uri_text(input: &[u8], room: &mut [u8]) -> Result<usize, u8> {
+/// Writes the text to the start of `room` and gives its length.
+pub fn uri_text(input: &[u8], room: &mut [u8]) -> Result<usize, Refusal> {
     // What is read is large, so it is borrowed and not moved.
     let reference = read(input);
-    let reference = reference.as_ref().map_err(|refusal| refusal.number())?;
-    let uri = Uri::of(reference).ok_or(BASE)?;
+    let reference = reference.as_ref().map_err(|&refusal| refusal)?;
+    let uri = Uri::of(reference).ok_or(Reason::Base)?;
     let mut measured = Measured::default();
     uri.print(&mut measured);
-    let text = room.get_mut(..measured.length).ok_or(ROOM)?;
+    let text = room.get_mut(..measured.length).ok_or(Reason::Room)?;
     uri.print(&mut Written {
         to: Buffer::new(text),
         bare: measured.bare,

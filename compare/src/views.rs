@@ -1,40 +1,26 @@
-//! Views: parts of the input.
+//! Views: parts of the input. Where a call is refused, none is given.
 
-use crate::reader::{read, Opening, Refusal};
-use crate::resolver::BASE;
+use crate::reader::{read, Opening};
+use crate::refusal::{Reason, Refusal};
 
-/// The number of a path segment that is not there.
-pub const NONE: u8 = 18;
-
-/// The content of the `n`-th path segment, counted from 0; or the refusal number and the empty part at the start.
-pub fn segment(input: &[u8], n: u64) -> (u8, &[u8]) {
-    let nothing = &input[..0];
-    let reference = match read(input) {
-        Ok(reference) => reference,
-        Err(refusal) => return (refusal.number(), nothing),
-    };
+/// The content of the `n`-th path segment, counted from 0.
+pub fn segment(input: &[u8], n: u64) -> Result<&[u8], Refusal> {
+    // What is read is large, so it is borrowed and not moved.
+    let reference = read(input);
+    let reference = reference.as_ref().map_err(|&refusal| refusal)?;
     let path = reference.path.as_deref().unwrap_or_default();
     let segment = usize::try_from(n).ok().and_then(|n| path.get(n));
-    match segment {
-        Some(segment) => (0, segment.as_bytes()),
-        None => (NONE, nothing),
-    }
+    Ok(segment.ok_or(Reason::None)?.as_bytes())
 }
 
-/// The whole item of the reference's authority, or of the base's where the reference has none; or the refusal number and the empty part
-/// at the start of the reference.
-pub fn authority<'a>(reference: &'a [u8], base: &'a [u8]) -> (u8, &'a [u8]) {
-    match authority_item(reference, base) {
-        Ok(item) => (0, item),
-        Err(number) => (number, &reference[..0]),
-    }
-}
-
-fn authority_item<'a>(reference: &'a [u8], base: &'a [u8]) -> Result<&'a [u8], u8> {
-    let base = read(base).map_err(|_| BASE)?;
-    let (_, inherited) = base.absolute().ok_or(BASE)?;
-    let reference = read(reference).map_err(Refusal::number)?;
-    match reference.opening {
+/// The whole item of the reference's authority, or of the base's where the reference has none.
+pub fn authority<'a>(reference: &'a [u8], base: &'a [u8]) -> Result<&'a [u8], Refusal> {
+    let base = read(base);
+    let base = base.as_ref().map_err(|refusal| refusal.of_base())?;
+    let (_, inherited) = base.absolute().ok_or(Reason::Base)?;
+    let reference = read(reference);
+    let reference = reference.as_ref().map_err(|&refusal| refusal)?;
+    match &reference.opening {
         Opening::Authority(_, own) => Ok(own.encoded),
         Opening::Discard(_) => Ok(inherited.encoded),
     }

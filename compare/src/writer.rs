@@ -8,10 +8,8 @@
 use crate::encoder::{
     items_after, Buffer, Encoder, Put, BYTES, NEGATIVE, NULL, NUMBER, TEXT, TRUE,
 };
-use crate::reader::{read, Reason, Refusal, MAX_INPUT, MAX_LABELS, MAX_PARAMETERS, MAX_SEGMENTS};
-
-/// The number of an encoding that is longer than the room.
-pub const ROOM: u8 = 10;
+use crate::reader::{read, MAX_INPUT, MAX_LABELS, MAX_PARAMETERS, MAX_SEGMENTS};
+use crate::refusal::{Reason, Refusal};
 
 /// A part of the lent bytes.
 #[derive(Clone, Copy, Debug, PartialEq, Eq)]
@@ -59,17 +57,18 @@ pub enum Host<'c> {
     Labels(&'c [Span]),
 }
 
-/// Writes the encoding to the start of `room` and gives its length; or gives the refusal number.
-pub fn write(components: &Components, lent: &[u8], room: &mut [u8]) -> Result<usize, u8> {
+/// Writes the encoding to the start of `room` and gives its length. Every refusal has place 0, the reader's too: what it
+/// judges is made here.
+pub fn write(components: &Components, lent: &[u8], room: &mut [u8]) -> Result<usize, Refusal> {
     let mut bytes = [0; MAX_INPUT];
     let mut encoding = Encoding {
         lent,
         to: Buffer::new(&mut bytes),
     };
-    encoding.reference(components).ok_or(Reason::Limit as u8)?;
+    encoding.reference(components).ok_or(Reason::Limit)?;
     let encoded = encoding.to.written();
-    read(encoded).map_err(Refusal::number)?;
-    let written = room.get_mut(..encoded.len()).ok_or(ROOM)?;
+    read(encoded).map_err(|refusal| refusal.reason)?;
+    let written = room.get_mut(..encoded.len()).ok_or(Reason::Room)?;
     written.copy_from_slice(encoded);
     Ok(encoded.len())
 }

@@ -7,6 +7,7 @@ use compare::generate::Generator;
 use compare::lines;
 use compare::options::{options, ENOUGH};
 use compare::reader::{read, Discard, Host, Opening, Reference, Scheme, Texts};
+use compare::refusal::Refusal;
 use compare::resolver::resolve;
 use compare::uri_text::{longest, uri_text};
 use std::collections::BTreeMap;
@@ -80,6 +81,27 @@ fn writing_never_answers_1_3_or_7() {
     for number in ["1", "3", "7"] {
         assert!(!words["write"].contains_key(number), "{number}");
     }
+}
+
+/// The place follows 1 to 8 alone, and none of the numbers of `same`. That of writing is 0.
+#[test]
+fn places_follow_their_numbers() {
+    for call in [
+        "read", "segment", "write", "resolve", "authority", "text", "options",
+    ] {
+        for (request, answer) in requests_of(call) {
+            let placed = matches!(answer[0], "1" | "2" | "3" | "4" | "5" | "6" | "7" | "8");
+            let place = match answer[..] {
+                [_, "at", place, ..] => place.parse::<usize>().ok(),
+                _ => None,
+            };
+            assert_eq!(place.is_some(), placed, "{request:?}: {answer:?}");
+            if call == "write" {
+                assert_eq!(place.unwrap_or(0), 0, "{request:?}");
+            }
+        }
+    }
+    assert!(requests_of("same").all(|(_, answer)| answer.len() == 3));
 }
 
 #[test]
@@ -339,7 +361,7 @@ impl<'a> Pair<'a> {
             base: read(base).ok()?,
             reference: read(reference).ok()?,
             room: *room,
-            outcome: resolve(base, reference, &mut [0; 1024]),
+            outcome: resolve(base, reference, &mut [0; 1024]).map_err(Refusal::number),
         };
         pair.base.absolute().is_some().then_some(pair)
     }
@@ -533,6 +555,32 @@ fn some_bases_are_refused_or_not_absolute() {
     }
 }
 
+/// Bases are refused at their start, later, at their end and for their length, and told at that place; those that are not absolute at 0.
+#[test]
+fn bases_are_refused_at_every_sort_of_place() {
+    for call in ["resolve", "authority"] {
+        let mut often = BTreeMap::new();
+        for (words, answer) in requests_of(call).filter(|(_, answer)| answer[0] == "8") {
+            let base = unhex(words[2]);
+            let (sort, place) = match read(&base) {
+                Ok(_) => ("not absolute", 0),
+                Err(refusal) => match refusal.place {
+                    0 => ("start", 0),
+                    1024 => ("length", 1024),
+                    place if place == base.len() => ("end", place),
+                    place => ("later", place),
+                },
+            };
+            assert_eq!(answer[1..3], ["at", &place.to_string()], "{words:?}");
+            *often.entry(sort).or_insert(0) += 1;
+        }
+        for sort in ["not absolute", "start", "length", "end", "later"] {
+            let often = often.get(sort).copied().unwrap_or(0);
+            assert!(often >= 10, "{call}, {sort}: {often} times");
+        }
+    }
+}
+
 /// An input to print, the length of the room, and the length of the text or the number with room enough.
 struct Printed {
     room: usize,
@@ -544,9 +592,10 @@ fn text_requests() -> Vec<Printed> {
     requests_of("text")
         .map(|(words, _)| {
             let input = unhex(words[2]);
+            let outcome = uri_text(&input, &mut vec![0; longest(input.len())]);
             Printed {
                 room: room(&words),
-                outcome: uri_text(&input, &mut vec![0; longest(input.len())]),
+                outcome: outcome.map_err(Refusal::number),
                 input,
             }
         })
@@ -941,9 +990,10 @@ fn options_requests() -> Vec<Asked> {
         .map(|(words, _)| {
             let [input, address] = [unhex(words[2]), unhex(words[3])];
             let port = words[4].parse().expect("a port");
+            let outcome = options(&input, &address, port, &mut [0; ENOUGH]);
             Asked {
                 room: room(&words),
-                outcome: options(&input, &address, port, &mut [0; ENOUGH]),
+                outcome: outcome.map_err(Refusal::number),
                 input,
                 address,
                 port,

@@ -3,7 +3,8 @@
 mod answered;
 
 use answered::{requests_of, unhex, Words};
-use compare::reader::{read, Refusal, MAX_INPUT};
+use compare::reader::{read, MAX_INPUT};
+use compare::refusal::Refusal;
 use std::collections::BTreeMap;
 use std::fmt::Debug;
 
@@ -661,9 +662,9 @@ fn rooms_around_what_is_written() {
             let room: usize = words[1].parse().expect("a room");
             let enough = [&[words[0], "16384"], &words[2..]].concat().join(" ");
             let answer = compare::lines::answer(enough.as_bytes());
-            let [number, length] = [0, 1].map(|k| answer.split(' ').nth(k).expect("a word"));
-            let length: usize = length.parse().expect("a length");
-            (number == "0").then_some((room, length))
+            let length = answer.strip_prefix("0 ")?.split(' ').next();
+            let length: usize = length.and_then(|word| word.parse().ok()).expect("a length");
+            Some((room, length))
         });
         let met = Tally::of(rooms.flat_map(|(room, length)| {
             let cases = [
@@ -684,29 +685,36 @@ fn rooms_around_what_is_written() {
     }
 }
 
-/// For each input of each call the lengths 1,023 and 1,024, where the call is done, and 1,025, with the number that it then has.
+/// For each input of each call the lengths 1,023 and 1,024, where the call is done, and 1,025, with the number that it then has, and the
+/// place where one is told.
 #[test]
 fn the_longest_inputs_of_every_call() {
     let mut met = Vec::new();
     let mut wanted = Vec::new();
     for (call, input, number, over) in [
-        ("read", 1, 0, "4"),
-        ("segment", 1, 0, "4"),
-        ("resolve", 2, 0, "8"),
-        ("resolve", 3, 0, "4"),
-        ("authority", 1, 0, "4"),
-        ("authority", 2, 0, "8"),
-        ("text", 2, 0, "4"),
+        ("read", 1, 0, "4 at 1024"),
+        ("segment", 1, 0, "4 at 1024"),
+        ("resolve", 2, 0, "8 at 1024"),
+        ("resolve", 3, 0, "4 at 1024"),
+        ("authority", 1, 0, "4 at 1024"),
+        ("authority", 2, 0, "8 at 1024"),
+        ("text", 2, 0, "4 at 1024"),
         ("same", 1, 0, "4"),
         ("same", 2, 1, "4"),
-        ("options", 2, 0, "4"),
+        ("options", 2, 0, "4 at 1024"),
     ] {
-        let length =
-            |(words, answer): (Words, Words)| (call, input, words[input].len() / 2, answer[number]);
+        let length = |(words, answer): (Words, Words)| {
+            let told = match answer[number..] {
+                [number, "at", place, ..] => format!("{number} at {place}"),
+                [number, ..] => number.to_string(),
+                [] => panic!("no number"),
+            };
+            (call, input, words[input].len() / 2, told)
+        };
         met.extend(requests_of(call).map(length));
         wanted.extend(
             [(1023, "0"), (1024, "0"), (1025, over)]
-                .map(|(length, number)| (call, input, length, number)),
+                .map(|(length, told)| (call, input, length, told.to_string())),
         );
     }
     Tally::of(met).has_all(wanted);

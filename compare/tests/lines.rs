@@ -1,20 +1,21 @@
 //! Requests, answers, and lines that are no requests.
 
 use compare::lines::{answer, call, meant_by, write_from_answer, write_from_itself, MAX_LINE};
+use compare::refusal::Reason;
 use compare::views::segment;
 
 #[test]
 fn read_answers_components() {
     let cases = [
-        ("read -", "1"),
+        ("read -", "1 at 0"),
         ("read 80", "0 discard 0"),
-        ("read 82f581616184", "7"),
-        ("read 84187ff6816061ff", "5"),
+        ("read 82f581616184", "7 at 5"),
+        ("read 84187ff6816061ff", "5 at 6"),
         (
             "read 84187ff68160626162",
             "0 discard 127 query parameter - fragment 6162",
         ),
-        ("read 85627a3982613a1900ff", "3"),
+        ("read 85627a3982613a1900ff", "3 at 7"),
         (
             "read 85627a3982613a18ff82606161826161616260",
             "0 scheme text 7a39 authority label 3a port 255 path segment - segment 61 \
@@ -36,8 +37,9 @@ fn segment_answers_a_view() {
         ("segment 82f58361616060 4294967296", "18 -"),
         ("segment 80 0", "18 -"),
         ("segment 820080 0", "18 -"),
-        ("segment - 0", "1 -"),
-        ("segment 8000 18446744073709551615", "7 -"),
+        ("segment - 0", "1 at 0 -"),
+        ("segment 821817 0", "3 at 1 -"),
+        ("segment 8000 18446744073709551615", "7 at 1 -"),
     ];
     for (request, expected) in cases {
         assert_eq!(answer(request.as_bytes()), expected, "{request}");
@@ -47,15 +49,15 @@ fn segment_answers_a_view() {
 #[test]
 fn a_view_is_a_part_of_the_input() {
     let input = [0x82, 0xF5, 0x82, 0x60, 0x61, b'a'];
-    assert_eq!(segment(&input, 0).1.as_ptr(), input[4..].as_ptr());
-    assert_eq!(segment(&input, 1).1.as_ptr(), input[5..].as_ptr());
-    assert_eq!(segment(&input, 2).1.as_ptr(), input.as_ptr());
-    assert_eq!(segment(&input[..5], 0).1.as_ptr(), input.as_ptr());
+    let start = |input, n| segment(input, n).map(<[u8]>::as_ptr);
+    assert_eq!(start(&input, 0), Ok(input[4..].as_ptr()));
+    assert_eq!(start(&input, 1), Ok(input[5..].as_ptr()));
+    assert_eq!(start(&input, 2), Err(Reason::None.at(0)));
+    assert_eq!(start(&input[..5], 0), Err(Reason::Cut.at(4)));
     // A lone empty segment is the empty part after its head.
     let lone = [0x82, 0xF5, 0x81, 0x60];
-    let view = segment(&lone, 0);
-    assert_eq!(view, (0, &[][..]));
-    assert_eq!(view.1.as_ptr(), lone[4..].as_ptr());
+    assert_eq!(segment(&lone, 0), Ok(&[][..]));
+    assert_eq!(start(&lone, 0), Ok(lone[4..].as_ptr()));
 }
 
 #[test]
@@ -64,8 +66,16 @@ fn write_answers_what_it_wrote() {
         ("write 1 - discard 0", "0 1 80 kept"),
         ("write 0 - discard 0", "10 0 - kept"),
         ("write 00016384 - discard all", "0 2 81f5 kept"),
-        ("write 9 - scheme none", "2 0 - kept"),
-        ("write 9 - discard 128 path segment 0 1", "4 0 - kept"),
+        // Of a refusal the place is 0, whether it is the writer's or the reader's.
+        ("write 9 - discard 128 path segment 0 1", "4 at 0 0 - kept"),
+        ("write 9 - discard 128", "4 at 0 0 - kept"),
+        ("write 9 - scheme none", "2 at 0 0 - kept"),
+        ("write 9 ff discard 1 path segment 0 1", "5 at 0 0 - kept"),
+        ("write 9 2e discard 1 path segment 0 1", "6 at 0 0 - kept"),
+        (
+            "write 9 61 scheme number 2 authority label 0 1",
+            "6 at 0 0 - kept",
+        ),
         (
             "write 60 687a3904fe9861 scheme text 1 2 authority address 3 4 port 5683 \
              path segment 7 0 segment 6 1 query parameter 0 1 fragment 0 0",
@@ -91,11 +101,15 @@ fn resolve_answers_what_it_wrote() {
             "resolve 00016384 8220816168 8200816161",
             "0 8 8320816168816161 kept",
         ),
-        ("resolve 9 8220816168 -", "1 0 - kept"),
-        ("resolve 9 8220816168 8000", "7 0 - kept"),
-        ("resolve 9 - -", "8 0 - kept"),
-        ("resolve 9 80 8220816168", "8 0 - kept"),
-        ("resolve 0 80 80", "8 0 - kept"),
+        ("resolve 9 8220816168 -", "1 at 0 0 - kept"),
+        ("resolve 9 8220816168 8000", "7 at 1 0 - kept"),
+        ("resolve 9 8220816168 82008161c3", "5 at 3 0 - kept"),
+        ("resolve 9 - -", "8 at 0 0 - kept"),
+        ("resolve 9 82208161 80", "8 at 3 0 - kept"),
+        ("resolve 9 822081616800 8000", "8 at 5 0 - kept"),
+        ("resolve 9 80 8220816168", "8 at 0 0 - kept"),
+        ("resolve 0 80 80", "8 at 0 0 - kept"),
+        ("resolve 0 82f6816168 8000", "8 at 0 0 - kept"),
     ];
     for (request, expected) in cases {
         assert_eq!(answer(request.as_bytes()), expected, "{request}");
@@ -112,10 +126,10 @@ fn text_answers_what_it_wrote() {
             "text 00016384 8420816120f68160",
             "0 12 636f61703a2f2f2532302f3f kept",
         ),
-        ("text 0 -", "1 0 - kept"),
-        ("text 0 80", "8 0 - kept"),
-        ("text 99 82f6816168", "8 0 - kept"),
-        ("text 99 822081616800", "7 0 - kept"),
+        ("text 0 -", "1 at 0 0 - kept"),
+        ("text 0 80", "8 at 0 0 - kept"),
+        ("text 99 82f6816168", "8 at 0 0 - kept"),
+        ("text 99 822081616800", "7 at 5 0 - kept"),
     ];
     for (request, expected) in cases {
         assert_eq!(answer(request.as_bytes()), expected, "{request}");
@@ -137,13 +151,14 @@ fn options_answers_what_it_wrote() {
         ("options 99 8220816168 7f0000 5683", "12 0 - kept"),
         ("options 99 8220816168 - 5683", "12 0 - kept"),
         ("options 0 - 7f 0", "12 0 - kept"),
-        ("options 0 - 7f000001 0", "1 0 - kept"),
-        ("options 0 80 7f000001 0", "8 0 - kept"),
-        ("options 0 82616181 7f000001 0", "1 0 - kept"),
-        ("options 0 8261618161 7f000001 0", "1 0 - kept"),
+        ("options 0 - 7f000001 0", "1 at 0 0 - kept"),
+        ("options 0 80 7f000001 0", "8 at 0 0 - kept"),
+        ("options 0 82f6816168 7f000001 0", "8 at 0 0 - kept"),
+        ("options 0 82616181 7f000001 0", "1 at 4 0 - kept"),
+        ("options 0 8261618161 7f000001 0", "1 at 4 0 - kept"),
         ("options 0 826161816168 7f000001 0", "11 0 - kept"),
         ("options 99 8520816168f6f660 7f000001 0", "11 0 - kept"),
-        ("options 99 822081616800 7f000001 0", "7 0 - kept"),
+        ("options 99 822081616800 7f000001 0", "7 at 5 0 - kept"),
     ];
     for (request, expected) in cases {
         assert_eq!(answer(request.as_bytes()), expected, "{request}");
@@ -206,12 +221,88 @@ fn authority_answers_a_view() {
     let cases = [
         ("authority 80 8220816168", "0 816168"),
         ("authority 82f6816169 8220816168", "0 816169"),
-        ("authority - 8220816168", "1 -"),
-        ("authority 8000 8220816168", "7 -"),
-        ("authority 82f6816169 -", "8 -"),
-        ("authority 8220816168 80", "8 -"),
+        ("authority - 8220816168", "1 at 0 -"),
+        ("authority 8000 8220816168", "7 at 1 -"),
+        ("authority 82f6816169 -", "8 at 0 -"),
+        ("authority 82f6816169 82208161", "8 at 3 -"),
+        ("authority 8220816168 80", "8 at 0 -"),
+        ("authority 8000 82f6816168", "8 at 0 -"),
     ];
     for (request, expected) in cases {
+        assert_eq!(answer(request.as_bytes()), expected, "{request}");
+    }
+}
+
+/// Every call that reads, with an input of each of the reader's refusals.
+#[test]
+fn the_readers_refusals_in_every_call() {
+    let over = "80".repeat(1025);
+    for (input, number, place) in [
+        ("-", 1, 0),
+        ("82208161", 1, 3),
+        ("822082616818", 1, 5),
+        ("822083616805", 1, 6),
+        ("a0", 2, 0),
+        ("8220826168f6", 2, 5),
+        ("82208361680516", 2, 6),
+        ("82208261681805", 3, 5),
+        ("82208261681a00010000", 4, 5),
+        (&over, 4, 1024),
+        ("822082616161ff", 5, 5),
+        ("8220826161615a", 6, 5),
+        ("8220846131613261336134", 6, 2),
+        ("822081616800", 7, 5),
+    ] {
+        let told = format!("{number} at {place}");
+        for (request, expected) in [
+            (format!("read {input}"), told.clone()),
+            (format!("segment {input} 0"), format!("{told} -")),
+            (format!("text 99 {input}"), format!("{told} 0 - kept")),
+            (
+                format!("options 99 {input} 7f000001 0"),
+                format!("{told} 0 - kept"),
+            ),
+            (
+                format!("resolve 99 8220816168 {input}"),
+                format!("{told} 0 - kept"),
+            ),
+            (format!("authority {input} 8220816168"), format!("{told} -")),
+            // As a base it is 8, and the place is the same.
+            (
+                format!("resolve 99 {input} 80"),
+                format!("8 at {place} 0 - kept"),
+            ),
+            (format!("authority 80 {input}"), format!("8 at {place} -")),
+            // Here places are not told.
+            (
+                format!("same {input} 8220816168"),
+                format!("{number} 0 different"),
+            ),
+            (
+                format!("same 8220816168 {input}"),
+                format!("0 {number} different"),
+            ),
+        ] {
+            assert_eq!(answer(request.as_bytes()), expected, "{request}");
+        }
+    }
+}
+
+/// 9 to 12 and 18.
+#[test]
+fn other_numbers_stand_alone() {
+    let most_segments = format!("83208161689820{}", "6161".repeat(32));
+    let one_more = format!("resolve 999 {most_segments} 8200816161");
+    for (request, expected) in [
+        (one_more.as_str(), "9 0 - kept"),
+        ("resolve 4 8220816168 80", "10 0 - kept"),
+        ("write 1 - discard 1", "10 0 - kept"),
+        ("text 8 8220816168", "10 0 - kept"),
+        ("options 1 8220816168 7f000001 5683", "10 0 - kept"),
+        ("options 99 826161816168 7f000001 0", "11 0 - kept"),
+        ("options 99 8220816168 7f0000 0", "12 0 - kept"),
+        ("segment 8220816168 0", "18 -"),
+    ] {
         assert_eq!(answer(request.as_bytes()), expected, "{request}");
     }
 }
@@ -225,7 +316,7 @@ fn more_texts_than_any_size_are_a_request() {
     ] {
         let texts = format!(" {text} 0 0").repeat(2000);
         let request = format!("write 99 - {opening}{texts}");
-        assert_eq!(answer(request.as_bytes()), "4 0 - kept", "{opening}");
+        assert_eq!(answer(request.as_bytes()), "4 at 0 0 - kept", "{opening}");
     }
 }
 
@@ -246,7 +337,7 @@ fn requests_to_write_what_was_read() {
         "write 5 - discard 1 path segment 0 0"
     );
     assert_eq!(write_from_itself(&input[..8], 9), None);
-    assert_eq!(write_from_answer("1", 9), None);
+    assert_eq!(write_from_answer("1 at 0", 9), None);
 }
 
 #[test]
@@ -405,7 +496,7 @@ fn no_requests() {
 #[test]
 fn the_longest_line() {
     let line = |length: usize| format!("read {}", "8".repeat(length - "read ".len()));
-    assert_eq!(answer(line(MAX_LINE - 1).as_bytes()), "4");
+    assert_eq!(answer(line(MAX_LINE - 1).as_bytes()), "4 at 1024");
     assert!(answer(line(MAX_LINE + 1).as_bytes()).starts_with("? "));
 }
 

@@ -4,6 +4,7 @@
 mod encode;
 #[path = "encode/not_absolute.rs"]
 mod not_absolute;
+mod told;
 
 use compare::generate::Generator;
 use compare::reader::{read, Host, Scheme};
@@ -13,11 +14,12 @@ use encode::{array, bytes, head, text_of, texts};
 use not_absolute::NOT_ABSOLUTE;
 use std::collections::{BTreeMap, BTreeSet};
 use std::net::{Ipv4Addr, Ipv6Addr};
+use told::told;
 
-/// The text, or the number, with room enough.
-fn printed(input: &[u8]) -> Result<String, u8> {
+/// The text, or the number and the place, with room enough.
+fn printed(input: &[u8]) -> Result<String, (u8, usize)> {
     let mut room = vec![7; longest(input.len())];
-    let length = uri_text(input, &mut room)?;
+    let length = uri_text(input, &mut room).map_err(told)?;
     room.truncate(length);
     Ok(String::from_utf8(room).expect("a text is ASCII"))
 }
@@ -25,11 +27,6 @@ fn printed(input: &[u8]) -> Result<String, u8> {
 #[track_caller]
 fn prints(hex: &str, text: &str) {
     assert_eq!(printed(&bytes(hex)), Ok(text.to_string()), "{hex}");
-}
-
-#[track_caller]
-fn refused(hex: &str, number: u8) {
-    assert_eq!(printed(&bytes(hex)), Err(number), "{hex}");
 }
 
 /// The base of the table.
@@ -162,6 +159,9 @@ fn with_text(place: usize, text: &[u8]) -> (Vec<u8>, [&'static str; 2]) {
     }
 }
 
+/// Where that text begins.
+const BEGINS: [usize; 4] = [3, 8, 7, 7];
+
 /// The text by the rules, byte by byte.
 fn escaped(place: usize, text: &[u8]) -> String {
     text.iter()
@@ -187,7 +187,7 @@ fn every_byte_in_every_place() {
             characters.insert(byte, character.clone());
         }
     }
-    for place in 0..4 {
+    for (place, begin) in BEGINS.into_iter().enumerate() {
         for byte in 0..=255 {
             let text = match characters.get(&byte) {
                 Some(character) => character.as_bytes(),
@@ -201,8 +201,8 @@ fn every_byte_in_every_place() {
                 _ => false,
             };
             let expected = match (utf8, rule) {
-                (false, _) => Err(5),
-                (true, true) => Err(6),
+                (false, _) => Err((5, begin)),
+                (true, true) => Err((6, begin)),
                 (true, false) => Ok(format!("{before}{}{after}", escaped(place, text))),
             };
             assert_eq!(printed(&input), expected, "{byte:02x}, place {place}");
@@ -325,12 +325,13 @@ fn every_group() {
 
 #[test]
 fn refusals_in_their_order() {
-    for &(hex, number) in NOT_ABSOLUTE {
-        refused(hex, number);
-        assert_eq!(uri_text(&bytes(hex), &mut []), Err(number), "{hex}");
+    let in_no_room = |input: &[u8]| uri_text(input, &mut []).map_err(told);
+    for &(hex, number, place) in NOT_ABSOLUTE {
+        assert_eq!(printed(&bytes(hex)), Err((number, place)), "{hex}");
+        assert_eq!(in_no_room(&bytes(hex)), Err((number, place)), "{hex}");
     }
-    assert_eq!(uri_text(&[0x80; 1025], &mut []), Err(4));
-    assert_eq!(uri_text(&bytes("82 20 81 61 68"), &mut []), Err(10));
+    assert_eq!(in_no_room(&[0x80; 1025]), Err((4, 1024)));
+    assert_eq!(in_no_room(&bytes("82 20 81 61 68")), Err((10, 0)));
 }
 
 #[test]
@@ -345,9 +346,9 @@ fn rooms() {
         let text = printed(&input).expect("a text");
         for length in 0..text.len() + 3 {
             let mut room = vec![7; length + 2];
-            let outcome = uri_text(&input, &mut room[..length]);
+            let outcome = uri_text(&input, &mut room[..length]).map_err(told);
             let expected = if length < text.len() {
-                Err(10)
+                Err((10, 0))
             } else {
                 Ok(text.len())
             };
@@ -376,7 +377,7 @@ fn the_longest_inputs() {
     };
     let text = printed(&long(245)).expect("a text");
     assert_eq!(text.len(), "coap://h".len() + 4 + 3 * (3 * 255 + 245));
-    assert_eq!(printed(&long(246)), Err(4));
+    assert_eq!(printed(&long(246)), Err((4, 1024)));
 }
 
 /// The bytes of the words of requests that are bytes.

@@ -4,6 +4,7 @@
 mod encode;
 #[path = "encode/not_absolute.rs"]
 mod not_absolute;
+mod told;
 
 use compare::generate::Generator;
 use compare::lines;
@@ -11,11 +12,12 @@ use compare::meant::{meant, words, Meant};
 use compare::options::{options, ENOUGH};
 use encode::{array, bytes, head, text, text_of, texts};
 use not_absolute::NOT_ABSOLUTE;
+use told::told;
 
-/// The options, or the number, with room enough.
-fn asked(input: &[u8], address: &[u8], port: u16) -> Result<Vec<u8>, u8> {
+/// The options, or the number and the place, with room enough.
+fn asked(input: &[u8], address: &[u8], port: u16) -> Result<Vec<u8>, (u8, usize)> {
     let mut room = vec![7; ENOUGH];
-    let length = options(input, address, port, &mut room)?;
+    let length = options(input, address, port, &mut room).map_err(told)?;
     room.truncate(length);
     Ok(room)
 }
@@ -278,37 +280,41 @@ fn values_are_raw() {
 fn refusals_in_their_order() {
     let others = [
         // 7 before 11.
-        ("85 20 81 61 68 F6 F6 60 00", 7),
-        ("82 61 61 81 61 68 00", 7),
+        ("85 20 81 61 68 F6 F6 60 00", 7, 8),
+        ("82 61 61 81 61 68 00", 7, 6),
         // 8 before 11.
-        ("85 F6 81 61 68 F6 F6 60", 8),
-        ("84 00 F6 F6 60", 8),
+        ("85 F6 81 61 68 F6 F6 60", 8, 0),
+        ("84 00 F6 F6 60", 8, 0),
         // A scheme that is a text, and a fragment that is set.
-        ("82 61 61 81 61 68", 11),
-        ("82 65 636F617074 81 61 68", 11),
-        ("85 20 81 61 68 F6 F6 60", 11),
-        ("85 29 81 61 68 81 61 61 81 61 62 61 66", 11),
-        ("85 61 61 81 61 68 F6 F6 60", 11),
+        ("82 61 61 81 61 68", 11, 0),
+        ("82 65 636F617074 81 61 68", 11, 0),
+        ("85 20 81 61 68 F6 F6 60", 11, 0),
+        ("85 29 81 61 68 81 61 61 81 61 62 61 66", 11, 0),
+        ("85 61 61 81 61 68 F6 F6 60", 11, 0),
         // 11 also where there would be no options.
-        ("85 20 81 44 01020304 F6 F6 60", 11),
-        ("82 61 61 81 44 01020304", 11),
-        ("82 20 81 61 68", 10),
+        ("85 20 81 44 01020304 F6 F6 60", 11, 0),
+        ("82 61 61 81 44 01020304", 11, 0),
+        ("82 20 81 61 68", 10, 0),
     ];
-    for &(hex, number) in NOT_ABSOLUTE.iter().chain(&others) {
+    let in_no_room = |input: &[u8], address: &[u8]| {
+        let outcome = options(input, address, 5683, &mut []);
+        outcome.map_err(told)
+    };
+    for &(hex, number, place) in NOT_ABSOLUTE.iter().chain(&others) {
         let input = bytes(hex);
         let own = bytes("01020304");
-        assert_eq!(options(&input, &own, 5683, &mut []), Err(number), "{hex}");
+        assert_eq!(in_no_room(&input, &own), Err((number, place)), "{hex}");
         if number != 10 {
-            assert_eq!(asked(&input, &own, 5683), Err(number), "{hex}");
+            assert_eq!(asked(&input, &own, 5683), Err((number, place)), "{hex}");
         }
         // 12 before all.
         for length in (0..40).filter(|length| ![4, 16].contains(length)) {
             let none = vec![1; length];
-            assert_eq!(options(&input, &none, 5683, &mut []), Err(12), "{hex}");
-            assert_eq!(asked(&input, &none, 5683), Err(12), "{hex}");
+            assert_eq!(in_no_room(&input, &none), Err((12, 0)), "{hex}");
+            assert_eq!(asked(&input, &none, 5683), Err((12, 0)), "{hex}");
         }
     }
-    assert_eq!(asked(&[0x80; 1025], &[0; 4], 0), Err(4));
+    assert_eq!(asked(&[0x80; 1025], &[0; 4], 0), Err((4, 1024)));
 }
 
 #[test]
@@ -332,10 +338,11 @@ fn rooms() {
         for length in 0..expected.len() + 3 {
             let mut room = vec![7; length + 2];
             let outcome = options(&input, &bytes("01020304"), 5683, &mut room[..length]);
+            let outcome = outcome.map_err(told);
             let fits = length >= expected.len();
             assert_eq!(
                 outcome,
-                fits.then_some(expected.len()).ok_or(10),
+                fits.then_some(expected.len()).ok_or((10, 0)),
                 "{length}"
             );
             let written = outcome.unwrap_or(0);
@@ -366,7 +373,7 @@ fn the_largest_requests() {
     let length = asked(&long, &[0; 4], 5683).expect("options").len();
     assert_eq!(length, 2 + 4 * 2 + 3 * 255 + 245);
     let over = [bytes("83 20 81 61 68"), texts(&[255, 255, 255, 246])].concat();
-    assert_eq!(asked(&over, &[0; 4], 5683), Err(4));
+    assert_eq!(asked(&over, &[0; 4], 5683), Err((4, 1024)));
     // A text of 13 to 23 bytes has a head of one byte, and as an option one of two. The port is left off, and is an option.
     let opening = [bytes("84 20 81 50"), vec![0xFF; 16]].concat();
     let path = texts(&[22; 32]);
@@ -474,7 +481,7 @@ fn what_was_written_is_what_is_meant() {
                 counts[0] += 1;
             }
             // 12 says nothing of the link.
-            Err(12) => assert!(![4, 16].contains(&address.len())),
+            Err((12, _)) => assert!(![4, 16].contains(&address.len())),
             Err(_) => {
                 assert_eq!(meant(&input, &address, port), None, "{input:02x?}");
                 counts[1] += 1;

@@ -1,15 +1,21 @@
 //! The resolver and the authority view: the table of the rules, the steps, the refusals in their order, every size at it and one over.
 
 mod encode;
+#[path = "encode/not_absolute.rs"]
+mod not_absolute;
+mod told;
 
+use compare::refusal::Refusal;
 use compare::resolver::resolve;
 use compare::views::authority;
 use encode::{bytes, text, texts};
+use not_absolute::NOT_ABSOLUTE;
+use told::told;
 
-/// What is resolved, or the number, with room enough.
-fn resolved(base: &[u8], reference: &[u8]) -> Result<Vec<u8>, u8> {
+/// What is resolved, or the number and the place, with room enough.
+fn resolved(base: &[u8], reference: &[u8]) -> Result<Vec<u8>, (u8, usize)> {
     let mut room = [7; 1024];
-    let length = resolve(base, reference, &mut room)?;
+    let length = resolve(base, reference, &mut room).map_err(told)?;
     Ok(room[..length].to_vec())
 }
 
@@ -23,10 +29,10 @@ fn gives(base: &str, reference: &str, result: &str) {
 }
 
 #[track_caller]
-fn refused(base: &str, reference: &str, number: u8) {
+fn refused(base: &str, reference: &str, number: u8, place: usize) {
     assert_eq!(
         resolved(&bytes(base), &bytes(reference)),
-        Err(number),
+        Err((number, place)),
         "{base}; {reference}"
     );
 }
@@ -40,10 +46,10 @@ const CORE: &str = "64 636F7265";
 fn table() {
     let base = format!("83 {HOST} 82 {WELL_KNOWN} {CORE}");
     let gives = |reference, result: &str| gives(&base, reference, result);
-    let refused = |reference, number| refused(&base, reference, number);
-    refused("", 1);
+    let refused = |reference, number, place| refused(&base, reference, number, place);
+    refused("", 1, 0);
     gives("80", &base);
-    refused("81 00", 2);
+    refused("81 00", 2, 1);
     gives("82 00 80", &base);
     gives(
         "82 00 81 61 61",
@@ -54,21 +60,21 @@ fn table() {
         &format!("83 {HOST} 82 {WELL_KNOWN} 61 61"),
     );
     gives("81 18 7F", &format!("82 {HOST}"));
-    refused("81 18 80", 4);
-    refused("81 18 17", 3);
+    refused("81 18 80", 4, 1);
+    refused("81 18 17", 3, 1);
     gives("82 02 81 60", &format!("82 {HOST}"));
     gives(
         "83 00 F6 81 60",
         &format!("84 {HOST} 82 {WELL_KNOWN} {CORE} 81 60"),
     );
-    refused("82 F5 81 62 2E 2E", 6);
-    refused("82 00 81 61 C3", 5);
+    refused("82 F5 81 62 2E 2E", 6, 3);
+    refused("82 00 81 61 C3", 5, 3);
     gives("82 01 81 60", &format!("83 {HOST} 82 {WELL_KNOWN} 60"));
-    refused("82 20 84 61 31 61 32 61 33 61 34", 6);
-    refused("82 20 81 61 41", 6);
-    refused("82 64 63 6F 61 70 81 61 61", 6);
-    refused("82 00 F6", 2);
-    refused("80 00", 7);
+    refused("82 20 84 61 31 61 32 61 33 61 34", 6, 2);
+    refused("82 20 81 61 41", 6, 3);
+    refused("82 64 63 6F 61 70 81 61 61", 6, 1);
+    refused("82 00 F6", 2, 2);
+    refused("80 00", 7, 1);
 }
 
 /// `coap://h/p?q#f`.
@@ -221,37 +227,39 @@ fn a_lone_empty_segment_and_a_query() {
 #[test]
 fn the_base_is_judged_first_and_always() {
     let absolute = "82 21 81 61 69";
-    for base in [
-        "", "80", "81 F5", "82 01 81 61 61", "82 F6 81 61 68", "82 20 81 61 41",
-        "82 20 81 61 68 00", "82 22 81 61 68",
-    ] {
+    // The place is the one in the base, and 0 where the base is not absolute.
+    for &(base, _, place) in NOT_ABSOLUTE {
         for reference in ["80", absolute, "", "80 00", "82 00 81 61 C3"] {
-            refused(base, reference, 8);
+            refused(base, reference, 8, place);
         }
     }
     let long = base_of(&[255, 255, 255, 246]);
     assert_eq!(long.len(), 1025);
-    assert_eq!(resolved(&long, &bytes(absolute)), Err(8));
-    assert_eq!(resolved(&long, &bytes("81 F5")), Err(8));
+    assert_eq!(resolved(&long, &bytes(absolute)), Err((8, 1024)));
+    assert_eq!(resolved(&long, &bytes("81 F5")), Err((8, 1024)));
+    // A fault near the end of a base.
+    let late = base_of(&[255, 255, 255, 245]);
+    assert_eq!(resolved(&late[..1023], &[0x80]), Err((8, 777)));
 }
 
 #[test]
 fn the_references_refusals_come_before_those_of_the_result() {
     let base = base_of(&[1; 32]);
     // 33 segments.
-    assert_eq!(resolved(&base, &bytes("82 00 81 61 61")), Err(9));
-    for (reference, number) in [
-        ("82 00 81 61", 1),
-        ("82 00 81 00", 2),
-        ("82 00 81 78 01 61", 3),
-        ("82 00 98 21", 4),
-        ("82 00 81 61 FF", 5),
-        ("82 00 81 61 2E", 6),
-        ("82 00 81 61 61 00", 7),
+    assert_eq!(resolved(&base, &bytes("82 00 81 61 61")), Err((9, 0)));
+    for (reference, number, place) in [
+        ("82 00 81 61", 1, 3),
+        ("82 00 82 60", 1, 4),
+        ("82 00 81 00", 2, 3),
+        ("82 00 81 78 01 61", 3, 3),
+        ("82 00 98 21", 4, 2),
+        ("82 00 81 61 FF", 5, 3),
+        ("82 00 82 60 61 2E", 6, 4),
+        ("82 00 81 61 61 00", 7, 5),
     ] {
-        assert_eq!(resolved(&base, &bytes(reference)), Err(number));
+        assert_eq!(resolved(&base, &bytes(reference)), Err((number, place)));
     }
-    assert_eq!(resolved(&base, &[0x80; 1025]), Err(4));
+    assert_eq!(resolved(&base, &[0x80; 1025]), Err((4, 1024)));
 }
 
 /// `coap://h` with a path of segments of these lengths; 5 bytes and the path.
@@ -268,20 +276,20 @@ fn appending(discard: u8, lengths: &[usize]) -> Vec<u8> {
 fn most_segments() {
     for (of_base, discard, appended, expected) in [
         (31, 0, 1, Ok(32)),
-        (31, 0, 2, Err(9)),
+        (31, 0, 2, Err((9, 0))),
         (32, 0, 0, Ok(32)),
-        (32, 0, 1, Err(9)),
+        (32, 0, 1, Err((9, 0))),
         (32, 1, 1, Ok(32)),
-        (32, 1, 2, Err(9)),
+        (32, 1, 2, Err((9, 0))),
         (32, 16, 16, Ok(32)),
-        (32, 16, 17, Err(9)),
-        (17, 0, 16, Err(9)),
+        (32, 16, 17, Err((9, 0))),
+        (17, 0, 16, Err((9, 0))),
         (16, 0, 16, Ok(32)),
         (1, 0, 31, Ok(32)),
-        (1, 0, 32, Err(9)),
+        (1, 0, 32, Err((9, 0))),
         (1, 1, 32, Ok(32)),
         (0, 0, 32, Ok(32)),
-        (32, 0, 32, Err(9)),
+        (32, 0, 32, Err((9, 0))),
     ] {
         assert_eq!(
             resolved(
@@ -297,7 +305,10 @@ fn most_segments() {
     // A lone empty segment of the base is not counted; an empty one that is appended is.
     let appended = appending(0, &[1; 32]);
     assert_eq!(resolved(&base_of(&[0]), &appended), Ok(base_of(&[1; 32])));
-    assert_eq!(resolved(&base_of(&[1; 32]), &appending(0, &[0])), Err(9));
+    assert_eq!(
+        resolved(&base_of(&[1; 32]), &appending(0, &[0])),
+        Err((9, 0))
+    );
 }
 
 #[test]
@@ -309,8 +320,8 @@ fn longest_result() {
     for (last, expected) in [
         (244, Ok(result(244))),
         (245, Ok(result(245))),
-        (246, Err(9)),
-        (255, Err(9)),
+        (246, Err((9, 0))),
+        (255, Err((9, 0))),
     ] {
         assert_eq!(resolved(&base, &appending(0, &[255, last])), expected);
     }
@@ -318,8 +329,11 @@ fn longest_result() {
     let fragment = bytes("84 00 F6 F6 65 6162636465");
     let longest = resolved(&result(238), &fragment).map(|result| result.len());
     assert_eq!(longest, Ok(1024));
-    assert_eq!(resolved(&result(239), &fragment), Err(9));
-    assert_eq!(resolved(&result(245), &bytes("84 00 F6 F6 60")), Err(9));
+    assert_eq!(resolved(&result(239), &fragment), Err((9, 0)));
+    assert_eq!(
+        resolved(&result(245), &bytes("84 00 F6 F6 60")),
+        Err((9, 0))
+    );
 }
 
 #[test]
@@ -328,7 +342,7 @@ fn what_falls_away_has_no_length() {
     let discarded = base_of(&[255, 255, 255, 245]);
     assert_eq!(discarded.len(), 1024);
     assert_eq!(resolved(&discarded, &appending(1, &[])), Ok(three.clone()));
-    assert_eq!(resolved(&discarded, &appending(1, &[246])), Err(9));
+    assert_eq!(resolved(&discarded, &appending(1, &[246])), Err((9, 0)));
     // The fragment of the base.
     let path = texts(&[255, 255, 255]);
     let base = [bytes("85 20 81 61 68"), path, vec![0xF6], text(244)].concat();
@@ -336,7 +350,7 @@ fn what_falls_away_has_no_length() {
     assert_eq!(resolved(&base, &[0x80]), Ok(three));
     let longest = resolved(&base, &appending(0, &[245])).map(|result| result.len());
     assert_eq!(longest, Ok(1024));
-    assert_eq!(resolved(&base, &appending(0, &[246])), Err(9));
+    assert_eq!(resolved(&base, &appending(0, &[246])), Err((9, 0)));
 }
 
 /// A scheme text of the base before a reference of nearly the largest size.
@@ -350,19 +364,23 @@ fn longest_result_by_the_scheme() {
     assert_eq!(reference(241).len(), 1020);
     let longest = resolved(&base, &reference(241)).map(|result| result.len());
     assert_eq!(longest, Ok(1024));
-    assert_eq!(resolved(&base, &reference(242)), Err(9));
-    assert_eq!(resolved(&base, &reference(245)), Err(9));
-    assert_eq!(resolved(&base, &reference(246)), Err(4));
+    assert_eq!(resolved(&base, &reference(242)), Err((9, 0)));
+    assert_eq!(resolved(&base, &reference(245)), Err((9, 0)));
+    assert_eq!(resolved(&base, &reference(246)), Err((4, 1024)));
 }
 
 #[test]
 fn over_a_size_comes_before_the_room() {
     let base = base_of(&[1; 32]);
     let mut room = [7; 4];
-    assert_eq!(resolve(&base, &appending(0, &[1]), &mut room), Err(9));
-    assert_eq!(resolve(&base, &appending(1, &[1]), &mut room), Err(10));
+    let mut outcome = |base: &[u8], reference: &[u8]| {
+        let outcome = resolve(base, reference, &mut room);
+        outcome.map_err(told)
+    };
+    assert_eq!(outcome(&base, &appending(0, &[1])), Err((9, 0)));
+    assert_eq!(outcome(&base, &appending(1, &[1])), Err((10, 0)));
     let long = base_of(&[255, 255, 255]);
-    assert_eq!(resolve(&long, &appending(0, &[255]), &mut room), Err(9));
+    assert_eq!(outcome(&long, &appending(0, &[255])), Err((9, 0)));
     assert_eq!(room, [7; 4]);
 }
 
@@ -373,8 +391,8 @@ fn rooms() {
     let result = bytes("83 20 81 61 68 81 61 61");
     for length in 0..12 {
         let mut room = [7; 12];
-        let outcome = resolve(&base, &reference, &mut room[..length]);
-        let expected = if length < 8 { Err(10) } else { Ok(8) };
+        let outcome = resolve(&base, &reference, &mut room[..length]).map_err(told);
+        let expected = if length < 8 { Err((10, 0)) } else { Ok(8) };
         assert_eq!(outcome, expected, "{length}");
         let written = outcome.unwrap_or(0);
         assert_eq!(room[..written], result[..written]);
@@ -392,11 +410,11 @@ fn rooms() {
     assert_eq!(room[1024..], [7; 6]);
 }
 
-/// The number, and whether the view is that part of the input.
+/// The view is that part of the input.
 #[track_caller]
-fn is_part(view: (u8, &[u8]), input: &[u8], start: usize, end: usize) {
-    assert_eq!(view, (0, &input[start..end]));
-    assert_eq!(view.1.as_ptr(), input[start..].as_ptr());
+fn is_part(view: Result<&[u8], Refusal>, input: &[u8], start: usize, end: usize) {
+    assert_eq!(view, Ok(&input[start..end]));
+    assert_eq!(view.map(<[u8]>::as_ptr), Ok(input[start..].as_ptr()));
 }
 
 #[test]
@@ -426,28 +444,30 @@ fn the_longest_authority() {
 #[test]
 fn an_authority_that_is_not_shown() {
     let own = "82 21 81 61 69";
-    for (reference, base, number) in [
-        (own, "", 8),
-        (own, "80", 8),
-        (own, "82 F6 81 61 68", 8),
-        (own, "82 20 81 61 68 00", 8),
-        ("", "80", 8),
-        ("80 00", "80", 8),
-        ("", FULL, 1),
-        ("81 00", FULL, 2),
-        ("81 18 17", FULL, 3),
-        ("81 18 80", FULL, 4),
-        ("82 00 81 61 C3", FULL, 5),
-        ("82 20 81 61 41", FULL, 6),
-        ("82 21 81 61 69 00", FULL, 7),
+    let refused = |reference: &[u8], base: &[u8], number, place| {
+        let outcome = authority(reference, base).map_err(told);
+        let pair = format!("{reference:02x?}; {base:02x?}");
+        assert_eq!(outcome, Err((number, place)), "{pair}");
+    };
+    for &(base, _, place) in NOT_ABSOLUTE {
+        for reference in [own, "80", "", "80 00"] {
+            refused(&bytes(reference), &bytes(base), 8, place);
+        }
+    }
+    for (reference, number, place) in [
+        ("", 1, 0),
+        ("82 20 82 61 69", 1, 5),
+        ("81 00", 2, 1),
+        ("81 18 17", 3, 1),
+        ("81 18 80", 4, 1),
+        ("82 00 81 61 C3", 5, 3),
+        ("82 20 81 61 41", 6, 3),
+        ("82 20 84 61 31 61 32 61 33 61 34", 6, 2),
+        ("82 21 81 61 69 00", 7, 5),
     ] {
-        let reference = bytes(reference);
-        let base = bytes(base);
-        let view = authority(&reference, &base);
-        assert_eq!(view, (number, &[][..]), "{reference:02x?}; {base:02x?}");
-        assert_eq!(view.1.as_ptr(), reference.as_ptr());
+        refused(&bytes(reference), &bytes(FULL), number, place);
     }
     let long = base_of(&[255, 255, 255, 246]);
-    assert_eq!(authority(&bytes(own), &long).0, 8);
-    assert_eq!(authority(&[0x80; 1025], &bytes(FULL)).0, 4);
+    refused(&bytes(own), &long, 8, 1024);
+    refused(&[0x80; 1025], &bytes(FULL), 4, 1024);
 }

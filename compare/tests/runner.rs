@@ -148,4 +148,18 @@ fn a_round_trip() {
         &run("round_trip_nothing", "none", "read 81f6\n"),
         "no accepted input",
     );
+    // Of several files one may have no accepted input.
+    let [some, _] = vectors("round_trip_some", requests, "");
+    let [nothing, _] = vectors("round_trip_none", "read 81f6\n", "");
+    for files in [[&nothing, &some], [&some, &nothing]] {
+        equal(
+            &compare("none", &["round-trip", files[0], files[1]]),
+            "equal: 2 inputs written as they were read; ",
+        );
+    }
+    different(
+        &compare("none", &["round-trip", &nothing, &nothing]),
+        "no accepted input",
+    );
+    different(&compare("none", &["round-trip"]), "usage: ");
 }

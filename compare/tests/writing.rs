@@ -1,9 +1,12 @@
 //! The writer: its refusals in their order, every size at it and one over, and what is read being written again.
 
+mod told;
+
 use compare::generate::Generator;
 use compare::lines;
 use compare::reader::read;
 use compare::writer::{write, Authority, Components, Discard, Host, Opening, Scheme, Span};
+use told::told;
 
 const LENT: &[u8] = b"abcdefgh.\xFF";
 
@@ -36,14 +39,14 @@ fn labels(labels: &[Span], port: Option<u64>) -> Option<Authority<'_>> {
     Some(Authority { host, port })
 }
 
-/// What is written from `lent`, or the number, with room enough.
-fn written_from(components: &Components, lent: &[u8]) -> Result<Vec<u8>, u8> {
+/// What is written from `lent`, or the number and the place, with room enough.
+fn written_from(components: &Components, lent: &[u8]) -> Result<Vec<u8>, (u8, usize)> {
     let mut room = [7; 1024];
-    let length = write(components, lent, &mut room)?;
+    let length = write(components, lent, &mut room).map_err(told)?;
     Ok(room[..length].to_vec())
 }
 
-fn written(components: &Components) -> Result<Vec<u8>, u8> {
+fn written(components: &Components) -> Result<Vec<u8>, (u8, usize)> {
     written_from(components, LENT)
 }
 
@@ -52,9 +55,10 @@ fn gives(components: &Components, encoding: &[u8]) {
     assert_eq!(written(components), Ok(encoding.to_vec()));
 }
 
+/// Every refusal has place 0, though the reader has one for what it refuses of the encoding.
 #[track_caller]
 fn refused(components: &Components, number: u8) {
-    assert_eq!(written(components), Err(number));
+    assert_eq!(written(components), Err((number, 0)));
 }
 
 #[test]
@@ -108,12 +112,12 @@ fn authorities() {
     refused(&address(4, Some(u64::MAX)), 4);
     refused(&address(5, None), 4);
     let named = |spans: &[Span], port| written(&full(Scheme::None, labels(spans, port)));
-    assert_eq!(named(&[], None), Err(4));
-    assert_eq!(named(&[], Some(1)), Err(2));
+    assert_eq!(named(&[], None), Err((4, 0)));
+    assert_eq!(named(&[], Some(1)), Err((2, 0)));
     assert!(named(&[A; 8], None).is_ok());
     assert!(named(&[A; 8], Some(1)).is_ok());
-    assert_eq!(named(&[A; 9], None), Err(4));
-    assert_eq!(named(&[A; 9], Some(1)), Err(4));
+    assert_eq!(named(&[A; 9], None), Err((4, 0)));
+    assert_eq!(named(&[A; 9], Some(1)), Err((4, 0)));
 }
 
 #[test]
@@ -206,7 +210,7 @@ fn the_longest_encoding() {
     // 3 bytes, 3 texts of 257 and a head of 2.
     assert_eq!(with(247), Ok(1023));
     assert_eq!(with(248), Ok(1024));
-    assert_eq!(with(249), Err(4));
+    assert_eq!(with(249), Err((4, 0)));
     // Over the size is 4, though the reader would say 5.
     let path = [span(0, 1); 5];
     let broken = Components {
@@ -216,15 +220,16 @@ fn the_longest_encoding() {
         ..DISCARD
     };
     let lent = [0xFF; 255];
-    assert_eq!(written_from(&broken, &lent), Err(4));
+    assert_eq!(written_from(&broken, &lent), Err((4, 0)));
 }
 
 #[test]
 fn rooms() {
     let mut room = [7; 3];
-    for (length, expected) in [(0, Err(10)), (1, Err(10)), (2, Ok(2)), (3, Ok(2))] {
+    for (length, expected) in [(0, Err((10, 0))), (1, Err((10, 0))), (2, Ok(2)), (3, Ok(2))] {
         room = [7; 3];
-        assert_eq!(write(&DISCARD, LENT, &mut room[..length]), expected);
+        let outcome = write(&DISCARD, LENT, &mut room[..length]).map_err(told);
+        assert_eq!(outcome, expected);
         let kept = expected.unwrap_or(0);
         assert!(room[kept..].iter().all(|&b| b == 7), "{length}");
     }
@@ -234,7 +239,7 @@ fn rooms() {
         ..DISCARD
     };
     room = [7; 3];
-    assert_eq!(write(&refused, LENT, &mut room), Err(5));
+    assert_eq!(write(&refused, LENT, &mut room).map_err(told), Err((5, 0)));
     assert_eq!(room, [7; 3]);
 }
 

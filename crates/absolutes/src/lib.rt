@@ -1,5 +1,6 @@
 // Absolute references: scheme and authority are both there.
 ghost use mathlib.Core.Path.{_≡_};
+ghost use Rattle.rules.specs.Result.{refused};
 ghost use Rattle.rules.specs.Model.{limits};
 ghost use Rattle.reader.specs.Answers.{openingOf, answerIs};
 ghost use Rattle.absolutes.specs.Bases.{isAbsolute, readBase};
@@ -7,6 +8,7 @@ use numbers::BASE;
 use reader::Answer;
 use reader::OpeningAt;
 use reader::SchemeAt;
+use refusals::Refusal;
 
 // Whether an opening is that of an absolute reference.
 pub fn is_absolute(opening: OpeningAt) -> bool
@@ -23,18 +25,24 @@ pub fn is_absolute(opening: OpeningAt) -> bool
     }
 }
 
-// Where everything stands in a base; 8 where the reader refuses it, at the reader's place, or where it is not absolute.
+fn refused(number: u8, place: usize) -> Answer
+    ensures { λ r. ⌜ answerIs r ≡ refused number place ⌝ }
+{
+    Answer::Refused(Refusal { number, place })
+}
+
+// Where everything stands in a base; 8 where the reader refuses it, at the reader's place, or at 0 where it is not absolute.
 pub fn read_base(s: &[u8]) -> Answer
     ensures { λ r. ⌜ answerIs r ≡ readBase limits (now (s .entry)) ⌝ }
 {
     match reader::read(s) {
-        Answer::Refused(_, place) => Answer::Refused(BASE, place),
+        Answer::Refused(refusal) => refused(BASE, refusal.place),
         Answer::Is(found) => {
             let opening = found.opening;
             if is_absolute(opening) {
                 Answer::Is(found)
             } else {
-                Answer::Refused(BASE, 0)
+                refused(BASE, 0)
             }
         }
     }

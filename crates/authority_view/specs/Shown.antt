@@ -1,8 +1,9 @@
 -- Parts of one of two slices, and what the code's answers say of them.
 use denote.Ref.{RefT}
 use Rattle.rules.specs.Bytes.{Bytes}
-use Rattle.rules.specs.Result.{Res, refused, ok}
+use Rattle.rules.specs.Result.{Res, ok}
 use Rattle.rules.specs.Views as Views
+use Rattle.refusals.specs.Answers.{refusalIs}
 use Rattle.cbor.specs.Heads.{spanIs}
 use Rattle.segment_view.specs.Shown.{PartOf}
 use Rattle.authority_view.specs.declared.Piece.{Piece}
@@ -17,4 +18,4 @@ PieceOf base ref r (Views.ofBase s) = PartOf base r s
 abbrev pub pieceIs : Piece → Res Views.Piece
 pieceIs (PieceV.OfReference s) = ok (Views.ofReference (spanIs s))
 pieceIs (PieceV.OfBase s) = ok (Views.ofBase (spanIs s))
-pieceIs (PieceV.Refused n place) = refused n place
+pieceIs (PieceV.Refused r) = refusalIs r

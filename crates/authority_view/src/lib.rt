@@ -4,22 +4,24 @@ ghost use mathlib.Core.Option.{none};
 ghost use Prim.Native.Nat.{_-_, _≤_};
 ghost use Rattle.rules.specs.Result.{ok};
 ghost use Rattle.rules.specs.Model.{limits};
-ghost use Rattle.rules.specs.Views.{authoritySpan, chosen, authorityView, pieceShown, numberOf};
+ghost use Rattle.rules.specs.Views.{authoritySpan, chosen, authorityView, pieceShown, verdict};
 ghost use Rattle.rules.specs.Laid.{Ordered};
 ghost use Rattle.cbor.specs.Heads.{spanIs};
 ghost use Rattle.reader.specs.Answers.{openingOf};
+ghost use Rattle.refusals.specs.Answers.{verdictIs};
 ghost use Rattle.authority_view.specs.Shown.{PieceOf, pieceIs};
 use cbor::Span;
-use numbers::DONE;
 use reader::Answer;
 use reader::AuthorityAt;
 use reader::OpeningAt;
+use refusals::Refusal;
+use refusals::Verdict;
 
-// A part of the reference, or of the base; or a refusal's number and place.
+// A part of the reference, or of the base; or the refusal.
 enum Piece {
     OfReference(Span),
     OfBase(Span),
-    Refused(u8, usize),
+    Refused(Refusal),
 }
 
 // Where the whole item of an authority stands.
@@ -68,9 +70,9 @@ fn chosen_authority(base: &[u8], reference: &[u8]) -> Piece
     ensures { λ r. ⌜ pieceIs r ≡ authorityView limits (now (base .entry)) (now (reference .entry)) ⌝ }
 {
     match absolutes::read_base(base) {
-        Answer::Refused(k, place) => Piece::Refused(k, place),
+        Answer::Refused(refusal) => Piece::Refused(refusal),
         Answer::Is(b) => match reader::read(reference) {
-            Answer::Refused(k, place) => Piece::Refused(k, place),
+            Answer::Refused(refusal) => Piece::Refused(refusal),
             Answer::Is(r) => {
                 let own = r.opening;
                 let other = b.opening;
@@ -96,17 +98,17 @@ pub fn authority<'a>(base: &'a [u8], reference: &'a [u8]) -> &'a [u8]
             let end = start + span.length;
             &base[start..end]
         }
-        Piece::Refused(_, _) => &reference[..0],
+        Piece::Refused(_) => &reference[..0],
     }
 }
 
-// 0 where it is given; 8 where the base is refused or not absolute; 1 to 7 where the reference is refused.
-pub fn authority_number(base: &[u8], reference: &[u8]) -> u8
-    ensures { λ r. ⌜ r ≡ numberOf (authorityView limits (now (base .entry)) (now (reference .entry))) ⌝ }
+// Accepted where it is given; 8 where the base is refused or not absolute; 1 to 7 where the reference is refused.
+pub fn authority_verdict(base: &[u8], reference: &[u8]) -> Verdict
+    ensures { λ r. ⌜ verdictIs r ≡ verdict (authorityView limits (now (base .entry)) (now (reference .entry))) ⌝ }
 {
     match chosen_authority(base, reference) {
-        Piece::OfReference(_) => DONE,
-        Piece::OfBase(_) => DONE,
-        Piece::Refused(k, _) => k,
+        Piece::OfReference(_) => Verdict::Accepted,
+        Piece::OfBase(_) => Verdict::Accepted,
+        Piece::Refused(refusal) => Verdict::Refused(refusal),
     }
 }

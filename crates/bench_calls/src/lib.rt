@@ -1,25 +1,49 @@
 // The library's calls, as the measuring program of bench/ makes them.
-ghost use Prim.Native.Nat.{_+_, _*_, _%_};
 ghost use mathlib.Core.Path.{_≡_};
 ghost use lib.ListN.{length};
-ghost use Rattle.rules.specs.Model.{limits, elements};
-ghost use Rattle.rules.specs.Writing.{readCall};
-ghost use Rattle.rules.specs.Calls.{outcome, after, resolveCall, textCall, optionsCall};
+ghost use Rattle.rules.specs.Model.{limits};
+ghost use Rattle.rules.specs.Calls.{lengthOf, outcome, after, readCall, resolveCall, textCall, optionsCall};
+ghost use Rattle.outcomes.specs.Answers.{outcomeIs};
+ghost use Rattle.bench_calls.specs.Packed.{packedRefusal, packed, packedRead, segmentCount};
 ghost use Rattle.round_trip.specs.Again.{again};
+use cri::Outcome;
+use cri::Refusal;
+use cri::Verdict;
 
-// The number of a link; its components are made too.
-#[no_mangle]
-pub extern "C" fn bench_read(s: &[u8]) -> u64
-    ensures { λ r. ⌜ r ≡ readCall limits (now (s .entry)) .number ⌝ }
+// What a refusal is as one number: its own, and 256 times its place.
+fn refusal_packed(refusal: Refusal) -> u64
+    ensures { λ r. ⌜ r ≡ packedRefusal (refusal .number) (refusal .place) ⌝ }
 {
-    let reading = cri::read(s);
-    reading.number as u64
+    refusal.number as u64 + 256 * ((refusal.place % 65536) as u64)
 }
 
-// How many segments its path has.
+// Of a done call 256 times the length written; or the refusal.
+fn outcome_packed(outcome: Outcome) -> u64
+    ensures { λ r. ⌜ r ≡ packed (outcomeIs outcome) ⌝ }
+{
+    match outcome {
+        Outcome::Written(n) => 256 * ((n % 65536) as u64),
+        Outcome::Refused(refusal) => refusal_packed(refusal),
+    }
+}
+
+// 0, or the refusal; its components are made too.
+#[no_mangle]
+pub extern "C" fn bench_read(s: &[u8]) -> u64
+    ensures { λ r. ⌜ r ≡ packedRead (readCall limits (now (s .entry))) ⌝ }
+{
+    let reading = cri::read(s);
+    let verdict = reading.verdict;
+    match verdict {
+        Verdict::Accepted => 0,
+        Verdict::Refused(refusal) => refusal_packed(refusal),
+    }
+}
+
+// How many segments its path has: none where it is refused.
 #[no_mangle]
 pub extern "C" fn bench_segments(s: &[u8]) -> usize
-    ensures { λ r. ⌜ r ≡ length (elements (readCall limits (now (s .entry)) .components .path)) ⌝ }
+    ensures { λ r. ⌜ r ≡ segmentCount (readCall limits (now (s .entry))) ⌝ }
 {
     let reading = cri::read(s);
     let components = reading.components;
@@ -33,43 +57,35 @@ pub extern "C" fn bench_segments(s: &[u8]) -> usize
 // A link read, and written again into the room: the length written.
 #[no_mangle]
 pub extern "C" fn bench_rewrite(s: &[u8], room: &mut [u8]) -> usize
-    ensures { λ r. ⌜ r ≡ outcome (again limits (now (s .entry))) (length (now (room .entry))) .length ⌝ }
+    ensures { λ r. ⌜ r ≡ lengthOf (outcome (again limits (now (s .entry))) (length (now (room .entry)))) ⌝ }
     ensures { λ _. ⌜ now (room .exit) ≡ after (again limits (now (s .entry))) (now (room .entry)) ⌝ }
 {
-    let done = round_trip::rewrite(s, room);
-    done.length
+    outcomes::written(round_trip::rewrite(s, room))
 }
 
-// A number, and 256 times the length.
-fn told(done: cri::Done) -> u64
-    ensures { λ r. ⌜ r ≡ done .number + 256 * (done .length % 65536) ⌝ }
-{
-    done.number as u64 + 256 * ((done.length % 65536) as u64)
-}
-
-// A reference resolved against a base into the room: the number, and 256 times the length written.
+// A reference resolved against a base into the room.
 #[no_mangle]
 pub extern "C" fn bench_resolve(base: &[u8], reference: &[u8], room: &mut [u8]) -> u64
-    ensures { λ r. ⌜ r ≡ outcome (resolveCall limits (now (base .entry)) (now (reference .entry))) (length (now (room .entry))) .number + 256 * (outcome (resolveCall limits (now (base .entry)) (now (reference .entry))) (length (now (room .entry))) .length % 65536) ⌝ }
+    ensures { λ r. ⌜ r ≡ packed (outcome (resolveCall limits (now (base .entry)) (now (reference .entry))) (length (now (room .entry)))) ⌝ }
     ensures { λ _. ⌜ now (room .exit) ≡ after (resolveCall limits (now (base .entry)) (now (reference .entry))) (now (room .entry)) ⌝ }
 {
-    told(cri::resolve(base, reference, room))
+    outcome_packed(cri::resolve(base, reference, room))
 }
 
-// The URI text of a link, written into the room: the number, and 256 times the length written.
+// The URI text of a link, written into the room.
 #[no_mangle]
 pub extern "C" fn bench_text(s: &[u8], room: &mut [u8]) -> u64
-    ensures { λ r. ⌜ r ≡ outcome (textCall limits (now (s .entry))) (length (now (room .entry))) .number + 256 * (outcome (textCall limits (now (s .entry))) (length (now (room .entry))) .length % 65536) ⌝ }
+    ensures { λ r. ⌜ r ≡ packed (outcome (textCall limits (now (s .entry))) (length (now (room .entry)))) ⌝ }
     ensures { λ _. ⌜ now (room .exit) ≡ after (textCall limits (now (s .entry))) (now (room .entry)) ⌝ }
 {
-    told(cri::uri_text(s, room))
+    outcome_packed(cri::uri_text(s, room))
 }
 
-// The options of a request for a link, sent to this address and port, written into the room: the number, and 256 times the length written.
+// The options of a request for a link, sent to this address and port, written into the room.
 #[no_mangle]
 pub extern "C" fn bench_options(s: &[u8], address: &[u8], port: u16, room: &mut [u8]) -> u64
-    ensures { λ r. ⌜ r ≡ outcome (optionsCall limits (now (s .entry)) (now (address .entry)) port) (length (now (room .entry))) .number + 256 * (outcome (optionsCall limits (now (s .entry)) (now (address .entry)) port) (length (now (room .entry))) .length % 65536) ⌝ }
+    ensures { λ r. ⌜ r ≡ packed (outcome (optionsCall limits (now (s .entry)) (now (address .entry)) port) (length (now (room .entry)))) ⌝ }
     ensures { λ _. ⌜ now (room .exit) ≡ after (optionsCall limits (now (s .entry)) (now (address .entry)) port) (now (room .entry)) ⌝ }
 {
-    told(cri::options(s, address, port, room))
+    outcome_packed(cri::options(s, address, port, room))
 }

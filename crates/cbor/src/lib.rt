@@ -114,7 +114,7 @@ fn number_at(s: &[u8], from: usize, w: usize) -> u64
 }
 
 // How many bytes follow the first byte of a head with this head information.
-fn width_of(info: u8) -> usize
+pub fn width_of(info: u8) -> usize
     requires { ⌜ info < 28 ⌝ }
     ensures { λ r. ⌜ r ≡ width info ⌝ }
 {

@@ -1,3 +1,3 @@
 -- The laws of the options as they are written, and of what the call rules.
 mod Pieces
-mod Rulings
+mod CallCases

@@ -6,13 +6,12 @@ use mathlib.Core.List.{[], _++_, map}
 use mathlib.Core.Option.{Option, none, some, Option·getD}
 use lib.ListN.{length}
 use Rattle.rules.specs.Bytes.{Bytes}
-use Rattle.rules.specs.Result.{BASE, COAP}
+use Rattle.rules.specs.Result.{Res, refused, ok, BASE, COAP}
 use Rattle.rules.specs.Model.{limits, elements, normalPath}
 use Rattle.rules.specs.Reader.{contents, Slot, unset, set, HostAt, AuthorityAt, noScheme, numberAt, nameAt, OpeningAt, discardAt, discardAllAt, fullAt, Found}
 use Rattle.rules.specs.Meaning.{saidTexts, saidHost}
 use Rattle.rules.specs.Valid.{GoodPort}
 use Rattle.rules.specs.Options.{option, uriHost, uriPort, optionBytes, optionsFrom}
-use Rattle.rules.specs.Calls.{Ruling, refuse, write}
 use Rattle.rules.specs.Standing.{RowAt}
 use Rattle.coap_coding.specs.Coded.{Small, AllSmall, coded}
 use Rattle.schemes.specs.Schemes.{defaultPort}
@@ -22,7 +21,7 @@ use Rattle.coap_values.specs.declared.Value.the-variants as ValueV
 use Rattle.coap_options.specs.declared.Request.{Request}
 use Rattle.coap_options.specs.declared.Deltas.{Deltas}
 
--- ---- RULES 3.5, 7: what the call rules, by what was found
+-- ---- RULES 3.5, 7: what the call answers, by what was found
 
 -- 7: the options of a request that has this host, port, path and query
 unfoldable pub optionsAt : Bytes → HostAt → ℕ → Slot → Slot → Bytes → ℕ → Bytes
@@ -34,23 +33,23 @@ optionsAt bs host port path query toAddress toPort =
     ++ map (option 15) (elements (saidTexts bs query)))
 
 -- 3.5: 11 where there is no default port, which the six schemes have, or a fragment is set
-unfoldable pub defaultRuling : Option ℕ → Slot → (ℕ → Bytes) → Ruling
-defaultRuling none fragment w = refuse COAP
-defaultRuling (some d) (set at n) w = refuse COAP
-defaultRuling (some d) unset w = write (w d)
+unfoldable pub defaultAnswer : Option ℕ → Slot → (ℕ → Bytes) → Res Bytes
+defaultAnswer none fragment w = refused COAP 0
+defaultAnswer (some d) (set at n) w = refused COAP 0
+defaultAnswer (some d) unset w = ok (w d)
 
 -- 7.2: the port, or else the default
-abbrev pub numberRuling : Bytes → ℕ → AuthorityAt → Found → Bytes → ℕ → Ruling
-numberRuling bs n a f toAddress toPort =
-    defaultRuling (defaultPort n) (f .fragment) (λ (d : ℕ). optionsAt bs (a .host) (Option·getD (a .port) d) (f .path) (f .query) toAddress toPort)
+abbrev pub numberAnswer : Bytes → ℕ → AuthorityAt → Found → Bytes → ℕ → Res Bytes
+numberAnswer bs n a f toAddress toPort =
+    defaultAnswer (defaultPort n) (f .fragment) (λ (d : ℕ). optionsAt bs (a .host) (Option·getD (a .port) d) (f .path) (f .query) toAddress toPort)
 
 -- 3.5: 8 where it is not absolute, 11 where the scheme is a text
-abbrev pub openingRuling : Bytes → OpeningAt → Found → Bytes → ℕ → Ruling
-openingRuling bs (discardAt k) f toAddress toPort = refuse BASE
-openingRuling bs discardAllAt f toAddress toPort = refuse BASE
-openingRuling bs (fullAt noScheme a) f toAddress toPort = refuse BASE
-openingRuling bs (fullAt (numberAt n) a) f toAddress toPort = numberRuling bs n a f toAddress toPort
-openingRuling bs (fullAt (nameAt at n) a) f toAddress toPort = refuse COAP
+abbrev pub openingAnswer : Bytes → OpeningAt → Found → Bytes → ℕ → Res Bytes
+openingAnswer bs (discardAt k) f toAddress toPort = refused BASE 0
+openingAnswer bs discardAllAt f toAddress toPort = refused BASE 0
+openingAnswer bs (fullAt noScheme a) f toAddress toPort = refused BASE 0
+openingAnswer bs (fullAt (numberAt n) a) f toAddress toPort = numberAnswer bs n a f toAddress toPort
+openingAnswer bs (fullAt (nameAt at n) a) f toAddress toPort = refused COAP 0
 
 -- ---- what is known of the positions
 

@@ -5,13 +5,14 @@ ghost use lib.ListN.{length};
 ghost use lib.Dec.{ltb};
 ghost use Rattle.rules.specs.Bytes.{Bytes};
 ghost use Rattle.rules.specs.Model.{limits};
-ghost use Rattle.rules.specs.Calls.{write, outcome, after, optionsCall};
+ghost use Rattle.rules.specs.Result.{ok};
+ghost use Rattle.rules.specs.Calls.{outcome, after, optionsCall};
 ghost use Rattle.put.specs.Wrote.{Wrote};
 ghost use Rattle.reader.specs.Answers.{slotOf, hostOf, authorityOf, openingOf, foundOf};
-ghost use Rattle.outcomes.specs.Answers.{doneIs};
+ghost use Rattle.outcomes.specs.Answers.{outcomeIs};
 ghost use Rattle.coap_coding.specs.Coded.{Small};
 ghost use Rattle.coap_values.specs.Values.{HostAsks, TextsAsk, valueIn, Inside, SmallValue};
-ghost use Rattle.coap_options.specs.Requests.{optionsAt, numberRuling, openingRuling, AuthorityAsks, Asks, valueCoded, numberAfter, isSet, DeltasAre, piecesAt, Stands, DeltasSmall};
+ghost use Rattle.coap_options.specs.Requests.{optionsAt, numberAnswer, openingAnswer, AuthorityAsks, Asks, valueCoded, numberAfter, isSet, DeltasAre, piecesAt, Stands, DeltasSmall};
 use coap_coding::option_length;
 use coap_coding::put_option;
 use coap_coding::put_row;
@@ -26,10 +27,9 @@ use coap_values::segments;
 use numbers::BASE;
 use numbers::COAP;
 use numbers::DEST;
-use numbers::DONE;
 use numbers::NAME_BYTES;
 use numbers::ROOM;
-use outcomes::Done;
+use outcomes::Outcome;
 use reader::Answer;
 use reader::AuthorityAt;
 use reader::Found;
@@ -171,12 +171,12 @@ fn requested(
     to_address: &[u8],
     to_port: u64,
     room: &mut [u8],
-) -> Done
+) -> Outcome
     requires { ⌜ length (now s) ≤ limits .bytes ⌝ }
     requires { ⌜ HostAsks (now s) (hostOf host) × (port ≤ 65535) ⌝ }
     requires { ⌜ TextsAsk (now s) (slotOf path) × TextsAsk (now s) (slotOf query) ⌝ }
-    ensures { λ r. ⌜ doneIs r ≡ outcome (write (optionsAt (now (s .entry)) (hostOf host) port (slotOf path) (slotOf query) (now («to_address» .entry)) «to_port»)) (length (now (room .entry))) ⌝ }
-    ensures { λ _. ⌜ now (room .exit) ≡ after (write (optionsAt (now (s .entry)) (hostOf host) port (slotOf path) (slotOf query) (now («to_address» .entry)) «to_port»)) (now (room .entry)) ⌝ }
+    ensures { λ r. ⌜ outcomeIs r ≡ outcome (ok (optionsAt (now (s .entry)) (hostOf host) port (slotOf path) (slotOf query) (now («to_address» .entry)) «to_port»)) (length (now (room .entry))) ⌝ }
+    ensures { λ _. ⌜ now (room .exit) ≡ after (ok (optionsAt (now (s .entry)) (hostOf host) port (slotOf path) (slotOf query) (now («to_address» .entry)) «to_port»)) (now (room .entry)) ⌝ }
 {
     let mut host_src = [0u8; NAME_BYTES];
     let mut port_src = [0u8; 2];
@@ -188,12 +188,9 @@ fn requested(
     };
     let deltas = deltas_of(request);
     if room.len() < options_length(s, request, deltas) {
-        return outcomes::refused(ROOM);
+        return outcomes::refused(ROOM, 0);
     }
-    Done {
-        number: DONE,
-        length: put_options(room, &host_src, &port_src, s, request, deltas),
-    }
+    Outcome::Written(put_options(room, &host_src, &port_src, s, request, deltas))
 }
 
 // The options of an accepted CRI whose scheme is a number: 11 where that has no default port, or where a fragment is set.
@@ -205,11 +202,11 @@ fn options_of_number(
     to_address: &[u8],
     to_port: u64,
     room: &mut [u8],
-) -> Done
+) -> Outcome
     requires { ⌜ Asks (now s) (foundOf found) ⌝ }
     requires { ⌜ AuthorityAsks (now s) (authorityOf authority) ⌝ }
-    ensures { λ r. ⌜ doneIs r ≡ outcome (numberRuling (now (s .entry)) n (authorityOf authority) (foundOf found) (now («to_address» .entry)) «to_port») (length (now (room .entry))) ⌝ }
-    ensures { λ _. ⌜ now (room .exit) ≡ after (numberRuling (now (s .entry)) n (authorityOf authority) (foundOf found) (now («to_address» .entry)) «to_port») (now (room .entry)) ⌝ }
+    ensures { λ r. ⌜ outcomeIs r ≡ outcome (numberAnswer (now (s .entry)) n (authorityOf authority) (foundOf found) (now («to_address» .entry)) «to_port») (length (now (room .entry))) ⌝ }
+    ensures { λ _. ⌜ now (room .exit) ≡ after (numberAnswer (now (s .entry)) n (authorityOf authority) (foundOf found) (now («to_address» .entry)) «to_port») (now (room .entry)) ⌝ }
 {
     let host = authority.host;
     let port = authority.port;
@@ -217,9 +214,9 @@ fn options_of_number(
     let query = found.query;
     let fragment = found.fragment;
     match schemes::default_port(n) {
-        DefaultPort::Unknown => outcomes::refused(COAP),
+        DefaultPort::Unknown => outcomes::refused(COAP, 0),
         DefaultPort::Is(default) => match fragment {
-            Slot::Set { .. } => outcomes::refused(COAP),
+            Slot::Set { .. } => outcomes::refused(COAP, 0),
             Slot::Unset => requested(
                 s,
                 host,
@@ -241,17 +238,17 @@ fn options_of_found(
     to_address: &[u8],
     to_port: u64,
     room: &mut [u8],
-) -> Done
+) -> Outcome
     requires { ⌜ Asks (now s) (foundOf found) ⌝ }
-    ensures { λ r. ⌜ doneIs r ≡ outcome (openingRuling (now (s .entry)) (openingOf (found .opening)) (foundOf found) (now («to_address» .entry)) «to_port») (length (now (room .entry))) ⌝ }
-    ensures { λ _. ⌜ now (room .exit) ≡ after (openingRuling (now (s .entry)) (openingOf (found .opening)) (foundOf found) (now («to_address» .entry)) «to_port») (now (room .entry)) ⌝ }
+    ensures { λ r. ⌜ outcomeIs r ≡ outcome (openingAnswer (now (s .entry)) (openingOf (found .opening)) (foundOf found) (now («to_address» .entry)) «to_port») (length (now (room .entry))) ⌝ }
+    ensures { λ _. ⌜ now (room .exit) ≡ after (openingAnswer (now (s .entry)) (openingOf (found .opening)) (foundOf found) (now («to_address» .entry)) «to_port») (now (room .entry)) ⌝ }
 {
     let opening = found.opening;
     match opening {
-        OpeningAt::Discard(_) => outcomes::refused(BASE),
-        OpeningAt::DiscardAll => outcomes::refused(BASE),
+        OpeningAt::Discard(_) => outcomes::refused(BASE, 0),
+        OpeningAt::DiscardAll => outcomes::refused(BASE, 0),
         OpeningAt::Full(scheme, authority) => match scheme {
-            SchemeAt::Unset => outcomes::refused(BASE),
+            SchemeAt::Unset => outcomes::refused(BASE, 0),
             SchemeAt::Number(n) => options_of_number(
                 s,
                 n,
@@ -261,21 +258,21 @@ fn options_of_found(
                 to_port,
                 room,
             ),
-            SchemeAt::Name { .. } => outcomes::refused(COAP),
+            SchemeAt::Name { .. } => outcomes::refused(COAP, 0),
         },
     }
 }
 
 // The answer, and the options in the room.
-pub fn options(s: &[u8], address: &[u8], port: u16, room: &mut [u8]) -> Done
-    ensures { λ r. ⌜ doneIs r ≡ outcome (optionsCall limits (now (s .entry)) (now (address .entry)) port) (length (now (room .entry))) ⌝ }
+pub fn options(s: &[u8], address: &[u8], port: u16, room: &mut [u8]) -> Outcome
+    ensures { λ r. ⌜ outcomeIs r ≡ outcome (optionsCall limits (now (s .entry)) (now (address .entry)) port) (length (now (room .entry))) ⌝ }
     ensures { λ _. ⌜ now (room .exit) ≡ after (optionsCall limits (now (s .entry)) (now (address .entry)) port) (now (room .entry)) ⌝ }
 {
     if reader::is_address_length(address.len() as u64) {
         return match reader::read(s) {
-            Answer::Refused(k, _) => outcomes::refused(k),
+            Answer::Refused(refusal) => Outcome::Refused(refusal),
             Answer::Is(found) => options_of_found(s, found, address, port as u64, room),
         };
     }
-    outcomes::refused(DEST)
+    outcomes::refused(DEST, 0)
 }

@@ -3,11 +3,12 @@ use Prim.Native.Nat.{ℕ, zero, suc}
 use mathlib.Core.List.{List, [], _∷_, map}
 use mathlib.Core.Option.{Option, none, some}
 use lib.ListN.{length, replicate}
+use Rattle.rules.specs.Result.{Res, refused, ok}
 use Rattle.rules.specs.Model as Model
 use Rattle.rules.specs.Model.{elements, limits, mostLabels, mostParameters}
-use Rattle.rules.specs.Writing as Writing
 use Rattle.rules.specs.Writing.{openingLabels}
 use Rattle.rules.specs.Views.{nowhere}
+use Rattle.refusals.specs.declared.Verdict.the-variants as VerdictV
 use Rattle.cbor.specs.declared.Span.{Span}
 use Rattle.reader.specs.declared.Port.{Port}
 use Rattle.reader.specs.declared.Port.the-variants as PortV
@@ -88,6 +89,11 @@ componentsLaid c =
       fragment = fragmentLaid (c .fragment);
     }
 
+-- RULES 9.5: a refused read reports every component unset
+abbrev pub noComponents : Model.Components
+noComponents = record { opening = Model.full none none; path = none; query = none; fragment = none }
+
 -- what reading answers
-abbrev pub readingLaid : Writing.Reading → Reading
-readingLaid r = record { number = r .number; components = componentsLaid (r .components) }
+abbrev pub readingLaid : Res Model.Components → Reading
+readingLaid (refused n k) = record { verdict = VerdictV.Refused (record { number = n; place = k }); components = componentsLaid noComponents }
+readingLaid (ok c) = record { verdict = VerdictV.Accepted; components = componentsLaid c }

@@ -5,13 +5,13 @@ ghost use Rattle.rules.specs.Bytes.{Bytes};
 ghost use Rattle.rules.specs.Model.{elements, limits, mostLabels, mostParameters};
 ghost use Rattle.rules.specs.Reader.{spans};
 ghost use Rattle.rules.specs.Meaning.{schemeSpan, hostSpans, authoritySpans, openingSpans, textSpans, textSpan, components};
-ghost use Rattle.rules.specs.Writing.{labelsOf, openingLabels, noComponents, readCall};
+ghost use Rattle.rules.specs.Calls.{readCall};
+ghost use Rattle.rules.specs.Writing.{labelsOf, openingLabels};
 ghost use Rattle.rules.specs.Standing.{RowWithin, HostStands, OpeningStands, TextsStand, FoundStands};
 ghost use Rattle.reader.specs.Answers.{slotOf, hostOf, authorityOf, schemeOf, openingOf, foundOf};
-ghost use Rattle.components.specs.Layout.{spansLaid, schemeLaid, authorityLaid, openingLaid, textsLaid, fragmentLaid, componentsLaid, readingLaid};
+ghost use Rattle.components.specs.Layout.{spansLaid, schemeLaid, authorityLaid, openingLaid, textsLaid, fragmentLaid, noComponents, componentsLaid, readingLaid};
 pub use cbor::Span;
 use cbor::span_at;
-use numbers::DONE;
 use numbers::LABELS;
 use numbers::PARAMETERS;
 use numbers::SEGMENTS;
@@ -23,6 +23,7 @@ use reader::OpeningAt;
 pub use reader::Port;
 use reader::SchemeAt;
 use reader::Slot;
+use refusals::Verdict;
 
 // Unset; or a scheme's number; or where its text stands.
 pub enum Scheme {
@@ -67,9 +68,9 @@ pub struct Components {
     pub fragment: Fragment,
 }
 
-// 0 and the components; or a refusal's number, and every component unset.
+// Accepted, and the components; or the refusal, and every component unset.
 pub struct Reading {
-    pub number: u8,
+    pub verdict: Verdict,
     pub components: Components,
 }
 
@@ -284,17 +285,17 @@ fn components_of(s: &[u8], found: Found) -> Components
     }
 }
 
-// What is said, and the refusal's number.
+// What is said, or the refusal.
 pub fn read(s: &[u8]) -> Reading
     ensures { λ r. ⌜ r ≡ readingLaid (readCall limits (now (s .entry))) ⌝ }
 {
     match reader::read(s) {
         Answer::Is(found) => Reading {
-            number: DONE,
+            verdict: Verdict::Accepted,
             components: components_of(s, found),
         },
-        Answer::Refused(n, _) => Reading {
-            number: n,
+        Answer::Refused(refusal) => Reading {
+            verdict: Verdict::Refused(refusal),
             components: no_components(),
         },
     }

@@ -8,6 +8,7 @@ use components::Fragment;
 use components::Opening;
 use components::Scheme;
 use components::Texts;
+use numbers::BASE;
 use numbers::LABELS;
 use numbers::PARAMETERS;
 use numbers::SEGMENTS;
@@ -17,7 +18,9 @@ use output::add_hex;
 use output::add_number;
 use output::add_text;
 use reader::Port;
-pub use room::add_done;
+use refusals::Refusal;
+use refusals::Verdict;
+pub use room::add_outcome;
 pub use room::fill;
 
 // The bytes in hex, or "-" where there are none.
@@ -194,9 +197,26 @@ pub fn add_components(out: &mut Output, used: usize, s: &[u8], c: Components) ->
     add_fragment(out, fragment, s, c)
 }
 
-// The answer of a view: its number and its bytes.
-pub fn add_view(out: &mut Output, used: usize, number: u8, view: &[u8]) -> usize {
-    let space = add_number(out, used, number as u64);
+// A refusal: its number, and of 1 to 8 its place.
+pub fn add_refusal(out: &mut Output, used: usize, refusal: Refusal) -> usize {
+    let number = add_number(out, used, refusal.number as u64);
+    if BASE < refusal.number {
+        return number;
+    }
+    let at = add_text(out, number, b" at ");
+    add_number(out, at, refusal.place as u64)
+}
+
+fn add_verdict(out: &mut Output, used: usize, verdict: Verdict) -> usize {
+    match verdict {
+        Verdict::Accepted => add_byte(out, used, b'0'),
+        Verdict::Refused(refusal) => add_refusal(out, used, refusal),
+    }
+}
+
+// The answer of a view: its verdict and its bytes.
+pub fn add_view(out: &mut Output, used: usize, verdict: Verdict, view: &[u8]) -> usize {
+    let space = add_verdict(out, used, verdict);
     let bytes = add_byte(out, space, b' ');
     add_bytes(out, bytes, view)
 }

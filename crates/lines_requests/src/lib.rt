@@ -9,15 +9,16 @@ use lines_input::take_number;
 use lines_input::take_number_16;
 use lines_input::take_room;
 use lines_output::add_components;
-use lines_output::add_done;
+use lines_output::add_outcome;
+use lines_output::add_refusal;
 use lines_output::add_view;
 use lines_output::fill;
-use numbers::DONE;
 use output::Output;
 use output::add_byte;
 use output::add_number;
 use output::add_text;
-use sameness::Verdict;
+use refusals::Verdict;
+use sameness::Judgement;
 use words::find;
 
 // Why a line is no request.
@@ -38,12 +39,22 @@ fn add_fault(out: &mut Output, used: usize, fault: Fault) -> usize {
     }
 }
 
+// The number of a verdict, without its place.
+fn number_of(verdict: Verdict) -> u64 {
+    match verdict {
+        Verdict::Accepted => 0,
+        Verdict::Refused(refusal) => refusal.number as u64,
+    }
+}
+
 // The answer of a comparison: both numbers, and whether the texts are equal.
-fn add_verdict(out: &mut Output, used: usize, verdict: Verdict) -> usize {
-    let space = add_number(out, used, verdict.first as u64);
-    let second = add_byte(out, space, b' ');
-    let at = add_number(out, second, verdict.second as u64);
-    if verdict.equal {
+fn add_judgement(out: &mut Output, used: usize, judgement: Judgement) -> usize {
+    let first = judgement.first;
+    let second = judgement.second;
+    let space = add_number(out, used, number_of(first));
+    let next = add_byte(out, space, b' ');
+    let at = add_number(out, next, number_of(second));
+    if judgement.equal {
         return add_text(out, at, b" equal");
     }
     add_text(out, at, b" different")
@@ -61,12 +72,15 @@ fn read(out: &mut Output, used: usize, line: &[u8], c: Cursor) -> usize {
     let n = bytes.length;
     let s = &room[..n];
     let reading = cri::read(s);
-    let at = add_number(out, used, reading.number as u64);
-    if reading.number == DONE {
-        let components = reading.components;
-        return add_components(out, at, s, components);
+    let verdict = reading.verdict;
+    let components = reading.components;
+    match verdict {
+        Verdict::Refused(refusal) => add_refusal(out, used, refusal),
+        Verdict::Accepted => {
+            let at = add_byte(out, used, b'0');
+            add_components(out, at, s, components)
+        }
     }
-    at
 }
 
 // segment HEX N
@@ -83,7 +97,7 @@ fn segment(out: &mut Output, used: usize, line: &[u8], c: Cursor) -> usize {
     let n = bytes.length;
     let s = &room[..n];
     let k = number.value as usize;
-    add_view(out, used, cri::segment_number(s, k), cri::segment(s, k))
+    add_view(out, used, cri::segment_verdict(s, k), cri::segment(s, k))
 }
 
 // authority REFERENCE BASE
@@ -105,7 +119,7 @@ fn authority(out: &mut Output, used: usize, line: &[u8], c: Cursor) -> usize {
     add_view(
         out,
         used,
-        cri::authority_number(base, reference),
+        cri::authority_verdict(base, reference),
         cri::authority(base, reference),
     )
 }
@@ -124,7 +138,7 @@ fn same(out: &mut Output, used: usize, line: &[u8], c: Cursor) -> usize {
     }
     let n = one.length;
     let m = other.length;
-    add_verdict(out, used, sameness::judge(&first[..n], &second[..m]))
+    add_judgement(out, used, sameness::judge(&first[..n], &second[..m]))
 }
 
 // write ROOM LENT WORD.., from the words of the components on
@@ -143,8 +157,8 @@ fn write(
         return add_fault(out, used, fault);
     }
     let components = given.components;
-    let done = cri::write(components, lent, room);
-    add_done(out, used, room, done)
+    let outcome = cri::write(components, lent, room);
+    add_outcome(out, used, room, outcome)
 }
 
 // resolve ROOM BASE REFERENCE, from the reference on
@@ -164,8 +178,8 @@ fn resolve(
         return add_fault(out, used, fault);
     }
     let n = bytes.length;
-    let done = cri::resolve(base, &lent[..n], room);
-    add_done(out, used, room, done)
+    let outcome = cri::resolve(base, &lent[..n], room);
+    add_outcome(out, used, room, outcome)
 }
 
 // text ROOM HEX, from the end on
@@ -181,8 +195,8 @@ fn text(
     if is_fault(fault) {
         return add_fault(out, used, fault);
     }
-    let done = cri::uri_text(input, room);
-    add_done(out, used, room, done)
+    let outcome = cri::uri_text(input, room);
+    add_outcome(out, used, room, outcome)
 }
 
 // options ROOM HEX ADDRESS PORT, from the address on
@@ -204,8 +218,8 @@ fn options(
         return add_fault(out, used, fault);
     }
     let n = bytes.length;
-    let done = cri::options(input, &lent[..n], port.value, room);
-    add_done(out, used, room, done)
+    let outcome = cri::options(input, &lent[..n], port.value, room);
+    add_outcome(out, used, room, outcome)
 }
 
 // The calls that are lent a room.

@@ -1,8 +1,6 @@
 // The numbers of docs/RULES.md: refusals (3.2) and sizes (section 2).
 
-// ---- refusals; 0 is a done call
-
-pub const DONE: u8 = 0;
+// ---- refusals
 
 // The bytes end inside the array; empty input.
 pub const CUT: u8 = 1;

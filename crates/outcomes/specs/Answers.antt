@@ -1,7 +1,11 @@
--- What the struct of an answer says.
-use Rattle.rules.specs.Calls as Calls
-use Rattle.outcomes.specs.declared.Done.{Done}
+-- What the answer of a call that writes says, in the terms of the rules.
+use Prim.Native.Nat.{ℕ}
+use Rattle.rules.specs.Result.{Res, ok}
+use Rattle.refusals.specs.Answers.{refusalIs}
+use Rattle.outcomes.specs.declared.Outcome.{Outcome}
+use Rattle.outcomes.specs.declared.Outcome.the-variants as OutcomeV
 
--- RULES 3.1, 3.7: the number and the length
-abbrev pub doneIs : Done → Calls.Done
-doneIs d = record { number = d .number; length = d .length }
+-- RULES 3.1: the length written, or the refusal; `numberOf`, `placeOf` and `lengthOf` of this are the number, the place and the length
+abbrev pub outcomeIs : Outcome → Res ℕ
+outcomeIs (OutcomeV.Written n) = ok n
+outcomeIs (OutcomeV.Refused r) = refusalIs r

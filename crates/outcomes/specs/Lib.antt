@@ -1,2 +1,2 @@
--- What the struct of an answer says.
+-- What the answer of a call that writes says.
 pub mod Answers

@@ -224,9 +224,9 @@ module _ (lim : Limits) (bs : Bytes) where
   read-long h = need-no _ _ _ _ (lt-leb (length bs) (lim .bytes) h)
 
   module _ (h : length bs ≤ lim .bytes) where
-    pub read-refused : (n : ℕ) → refused n 0 ≡ readHead (is Array) bs 0 → refused n 0 ≡ read lim bs
+    pub read-refused : (n k : ℕ) → refused n k ≡ readHead (is Array) bs 0 → refused n k ≡ read lim bs
     unfolding read
-    read-refused n e = bind-refused _ _ n 0 e ∙ need-yes _ _ _ _ (le-leb (length bs) (lim .bytes) h)
+    read-refused n k e = bind-refused _ _ n k e ∙ need-yes _ _ _ _ (le-leb (length bs) (lim .bytes) h)
 
     module _ (n next : ℕ) (e : accepted Array n next ≡ readHead (is Array) bs 0) where
       pub read-many : 5 < n → refused FORM 0 ≡ read lim bs

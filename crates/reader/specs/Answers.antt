@@ -10,6 +10,7 @@ use Rattle.rules.specs.Model.{Limits, mostParameters}
 use Rattle.rules.specs.Head as H
 use Rattle.rules.specs.Rules.{segment, parameter}
 use Rattle.rules.specs.Reader as R
+use Rattle.refusals.specs.Answers.{refusalIs}
 use Rattle.cbor.specs.Heads.{accepted}
 use Rattle.reader.specs.declared.Head.{Head}
 use Rattle.reader.specs.declared.Head.the-variants as HeadV
@@ -40,15 +41,15 @@ use Rattle.reader.specs.declared.Found.{Found}
 use Rattle.reader.specs.declared.Answer.{Answer}
 use Rattle.reader.specs.declared.Answer.the-variants as AnswerV
 
--- the head of an array; a refusal's place is the head's
-abbrev pub headIs : ℕ → Head → Res H.Head
-headIs at (HeadV.Is n next) = accepted H.Array n next
-headIs at (HeadV.Refused n) = refused n at
+-- the head of an array
+abbrev pub headIs : Head → Res H.Head
+headIs (HeadV.Is n next) = accepted H.Array n next
+headIs (HeadV.Refused r) = refusalIs r
 
 -- the position after texts that stand in a row
 abbrev pub rowEndIs : RowEnd → Res ℕ
 rowEndIs (RowEndV.At next) = ok next
-rowEndIs (RowEndV.Refused n place) = refused n place
+rowEndIs (RowEndV.Refused r) = refusalIs r
 
 -- ---- path, query, fragment
 
@@ -60,7 +61,7 @@ slotOf (SlotV.Set at n) = R.set at n
 -- a slot and the position after it
 abbrev pub slotIs : SlotAt → Res R.SlotAt
 slotIs (SlotAtV.Is slot next) = ok (record { slot = slotOf slot; next = next })
-slotIs (SlotAtV.Refused n place) = refused n place
+slotIs (SlotAtV.Refused r) = refusalIs r
 
 -- ---- authority
 
@@ -77,7 +78,7 @@ portOf (PortV.Is n) = some n
 -- how many labels, the port, and the position after it
 abbrev pub namesIs : Names → Res R.Names
 namesIs (NamesV.Are count port next) = ok (record { count = count; port = portOf port; next = next })
-namesIs (NamesV.Refused n place) = refused n place
+namesIs (NamesV.Refused r) = refusalIs r
 
 -- where an authority stands, and its port
 abbrev pub authorityOf : AuthorityAt → R.AuthorityAt
@@ -86,7 +87,7 @@ authorityOf a = record { at = a .at; host = hostOf (a .host); port = portOf (a .
 -- an authority, or a refusal
 abbrev pub authorityIs : Authority → Res R.AuthorityAt
 authorityIs (AuthorityV.Is a) = ok (authorityOf a)
-authorityIs (AuthorityV.Refused n place) = refused n place
+authorityIs (AuthorityV.Refused r) = refusalIs r
 
 -- the last part of `readAuthority`: its n items, the first of them at a position
 unfoldable pub readHost : Bytes → ℕ → ℕ → ℕ → Res R.AuthorityAt
@@ -117,7 +118,7 @@ firstIs bs at count (FirstV.Refused n) = refused n at
 -- the opening, the position after it, and how many items are left
 abbrev pub openedIs : Opened → Res R.Opened
 openedIs (OpenedV.Is opening next left) = ok (record { opening = openingOf opening; next = next; left = left })
-openedIs (OpenedV.Refused n place) = refused n place
+openedIs (OpenedV.Refused r) = refusalIs r
 
 -- ---- the whole
 
@@ -128,7 +129,7 @@ foundOf f = record { opening = openingOf (f .opening); path = slotOf (f .path); 
 -- what was found, or a refusal
 abbrev pub answerIs : Answer → Res R.Found
 answerIs (AnswerV.Is f) = ok (foundOf f)
-answerIs (AnswerV.Refused n place) = refused n place
+answerIs (AnswerV.Refused r) = refusalIs r
 
 -- the last parts of `read`: the end
 unfoldable pub readEnd : Bytes → R.Found → ℕ → Res R.Found

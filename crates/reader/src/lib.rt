@@ -27,6 +27,7 @@ use numbers::PORT;
 use numbers::RULE;
 use numbers::SEGMENTS;
 use numbers::TAIL;
+use refusals::Refusal;
 use schemes::SchemeId;
 use schemes::SchemeNumber;
 use schemes::scheme_id;
@@ -82,28 +83,28 @@ pub struct Found {
     pub fragment: Slot,
 }
 
-// What was found; or a refusal's number and place.
+// What was found; or the refusal.
 pub enum Answer {
     Is(Found),
-    Refused(u8, usize),
+    Refused(Refusal),
 }
 
-// A head's number and the position after it; or a refusal's number, whose place is the head's.
+// A head's number and the position after it.
 enum Head {
     Is { value: u64, next: usize },
-    Refused(u8),
+    Refused(Refusal),
 }
 
 // The position after texts that stand in a row.
 enum RowEnd {
     At(usize),
-    Refused(u8, usize),
+    Refused(Refusal),
 }
 
 // A slot, and the position after it.
 enum SlotAt {
     Is { slot: Slot, next: usize },
-    Refused(u8, usize),
+    Refused(Refusal),
 }
 
 // How many labels there are, the port, and the position after it.
@@ -113,12 +114,12 @@ enum Names {
         port: Port,
         next: usize,
     },
-    Refused(u8, usize),
+    Refused(Refusal),
 }
 
 enum Authority {
     Is(AuthorityAt),
-    Refused(u8, usize),
+    Refused(Refusal),
 }
 
 // The first item and the position after it: a discard; or a scheme, which the authority follows. Or a refusal's number, whose place is the item's.
@@ -135,7 +136,7 @@ enum Opened {
         next: usize,
         left: usize,
     },
-    Refused(u8, usize),
+    Refused(Refusal),
 }
 
 // ---- the kinds of items that are allowed at a place
@@ -255,12 +256,18 @@ fn may_open() -> Kinds
 // ---- texts
 
 fn array_head(s: &[u8], at: usize) -> Head
-    ensures { λ r. ⌜ headIs at r ≡ readHead (is Array) (now (s .entry)) at ⌝ }
+    ensures { λ r. ⌜ headIs r ≡ readHead (is Array) (now (s .entry)) at ⌝ }
 {
     match cbor::item_at(s, at, only_array()) {
         Item::Array { count: n, next } => Head::Is { value: n, next },
-        Item::Refused(n) => Head::Refused(n),
-        _ => Head::Refused(FORM),
+        Item::Refused(n) => Head::Refused(Refusal {
+            number: n,
+            place: at,
+        }),
+        _ => Head::Refused(Refusal {
+            number: FORM,
+            place: at,
+        }),
     }
 }
 
@@ -281,7 +288,10 @@ fn row_at(s: &[u8], at: usize, count: usize, sort: Sort) -> RowEnd
     let mut left = count;
     while 0 < left {
         match text_at(s, here, sort) {
-            Step::Refused(n) => return RowEnd::Refused(n, here),
+            Step::Refused(n) => return RowEnd::Refused(Refusal {
+                number: n,
+                place: here, // of the text
+            }),
             Step::Next(next) => {
                 here = next;
                 left -= 1;
@@ -298,7 +308,10 @@ fn null_body(at: usize, left: usize, next: usize) -> SlotAt
     ensures { λ r. ⌜ slotIs r ≡ R.nullBody at left (record { kind = Null; value = 22; next = next }) ⌝ }
 {
     if left == 0 {
-        return SlotAt::Refused(FORM, at);
+        return SlotAt::Refused(Refusal {
+            number: FORM,
+            place: at,
+        });
     }
     SlotAt::Is {
         slot: Slot::Unset,
@@ -311,14 +324,20 @@ fn array_body(s: &[u8], at: usize, sort: Sort, low: u64, high: u64, n: u64, next
     ensures { λ r. ⌜ slotIs r ≡ R.arrayBody (sortIs sort) low high (now (s .entry)) at (record { kind = Array; value = n; next = next }) ⌝ }
 {
     if n < low {
-        return SlotAt::Refused(LIMIT, at);
+        return SlotAt::Refused(Refusal {
+            number: LIMIT,
+            place: at,
+        });
     }
     if high < n {
-        return SlotAt::Refused(LIMIT, at);
+        return SlotAt::Refused(Refusal {
+            number: LIMIT,
+            place: at,
+        });
     }
     let count = n as usize;
     match row_at(s, next, count, sort) {
-        RowEnd::Refused(k, place) => SlotAt::Refused(k, place),
+        RowEnd::Refused(refusal) => SlotAt::Refused(refusal),
         RowEnd::At(end) => SlotAt::Is {
             slot: Slot::Set { at: next, count },
             next: end,
@@ -339,8 +358,14 @@ fn array_at(s: &[u8], at: usize, left: usize, sort: Sort, low: u64, high: u64) -
     match cbor::item_at(s, at, array_or_null()) {
         Item::Array { count: n, next } => array_body(s, at, sort, low, high, n, next),
         Item::Null(next) => null_body(at, left - 1, next),
-        Item::Refused(n) => SlotAt::Refused(n, at),
-        _ => SlotAt::Refused(FORM, at),
+        Item::Refused(n) => SlotAt::Refused(Refusal {
+            number: n,
+            place: at,
+        }),
+        _ => SlotAt::Refused(Refusal {
+            number: FORM,
+            place: at,
+        }),
     }
 }
 
@@ -349,7 +374,10 @@ fn fragment_body(s: &[u8], at: usize, n: u64, next: usize) -> SlotAt
     ensures { λ r. ⌜ slotIs r ≡ R.fragmentBody (now (s .entry)) at (record { kind = Text; value = n; next = next }) ⌝ }
 {
     match texts::text_body(s, next, n, Sort::Fragment) {
-        Step::Refused(k) => SlotAt::Refused(k, at),
+        Step::Refused(k) => SlotAt::Refused(Refusal {
+            number: k,
+            place: at,
+        }),
         Step::Next(end) => SlotAt::Is {
             slot: Slot::Set {
                 at: next,
@@ -373,8 +401,14 @@ fn fragment_at(s: &[u8], at: usize, left: usize) -> SlotAt
     match cbor::item_at(s, at, text_or_null()) {
         Item::Text { length: n, next } => fragment_body(s, at, n, next),
         Item::Null(next) => null_body(at, left - 1, next),
-        Item::Refused(n) => SlotAt::Refused(n, at),
-        _ => SlotAt::Refused(FORM, at),
+        Item::Refused(n) => SlotAt::Refused(Refusal {
+            number: n,
+            place: at,
+        }),
+        _ => SlotAt::Refused(Refusal {
+            number: FORM,
+            place: at,
+        }),
     }
 }
 
@@ -388,9 +422,15 @@ fn nothing_at(s: &[u8], at: usize, left: usize) -> RowEnd
         return RowEnd::At(at);
     }
     if s.len() <= at {
-        return RowEnd::Refused(CUT, at);
+        return RowEnd::Refused(Refusal {
+            number: CUT,
+            place: at,
+        });
     }
-    RowEnd::Refused(FORM, at)
+    RowEnd::Refused(Refusal {
+        number: FORM,
+        place: at,
+    })
 }
 
 // A port, whose head has been read, after `count` labels.
@@ -398,10 +438,13 @@ fn port_body(s: &[u8], at: usize, left: usize, count: usize, n: u64, next: usize
     ensures { λ r. ⌜ namesIs r ≡ R.portBody (now (s .entry)) at left count (record { kind = Number; value = n; next = next }) ⌝ }
 {
     if PORT < n {
-        return Names::Refused(LIMIT, at);
+        return Names::Refused(Refusal {
+            number: LIMIT,
+            place: at,
+        });
     }
     match nothing_at(s, next, left) {
-        RowEnd::Refused(k, place) => Names::Refused(k, place),
+        RowEnd::Refused(refusal) => Names::Refused(refusal),
         RowEnd::At(end) => Names::Are {
             count,
             port: Port::Is(n),
@@ -423,8 +466,14 @@ fn port_at(s: &[u8], at: usize, left: usize) -> Names
     }
     match cbor::item_at(s, at, only_number()) {
         Item::Number { value: n, next } => port_body(s, at, left - 1, 0, n, next),
-        Item::Refused(n) => Names::Refused(n, at),
-        _ => Names::Refused(FORM, at),
+        Item::Refused(n) => Names::Refused(Refusal {
+            number: n,
+            place: at,
+        }),
+        _ => Names::Refused(Refusal {
+            number: FORM,
+            place: at,
+        }),
     }
 }
 
@@ -450,7 +499,10 @@ fn names_at(s: &[u8], at: usize, items: usize, count: usize) -> Names
     while 0 < left {
         match cbor::item_at(s, here, text_or_number()) {
             Item::Text { length: n, next } => match label_body(s, seen, n, next) {
-                Step::Refused(k) => return Names::Refused(k, here),
+                Step::Refused(k) => return Names::Refused(Refusal {
+                    number: k,
+                    place: here,
+                }),
                 Step::Next(end) => {
                     here = end;
                     left -= 1;
@@ -458,8 +510,14 @@ fn names_at(s: &[u8], at: usize, items: usize, count: usize) -> Names
                 }
             },
             Item::Number { value: n, next } => return port_body(s, here, left - 1, seen, n, next),
-            Item::Refused(n) => return Names::Refused(n, here),
-            _ => return Names::Refused(FORM, here),
+            Item::Refused(n) => return Names::Refused(Refusal {
+                number: n,
+                place: here,
+            }),
+            _ => return Names::Refused(Refusal {
+                number: FORM,
+                place: here,
+            }),
         }
     }
     Names::Are {
@@ -485,14 +543,20 @@ fn address_host(s: &[u8], start: usize, at: usize, left: usize, n: u64, next: us
     ensures { λ r. ⌜ authorityIs r ≡ R.addressHost (now (s .entry)) start at left (record { kind = ByteString; value = n; next = next }) ⌝ }
 {
     if !is_address_length(n) {
-        return Authority::Refused(LIMIT, at);
+        return Authority::Refused(Refusal {
+            number: LIMIT,
+            place: at,
+        });
     }
     let count = n as usize;
     if s.len() - next < count {
-        return Authority::Refused(CUT, at);
+        return Authority::Refused(Refusal {
+            number: CUT,
+            place: at,
+        });
     }
     match port_at(s, next + count, left) {
-        Names::Refused(k, place) => Authority::Refused(k, place),
+        Names::Refused(refusal) => Authority::Refused(refusal),
         Names::Are {
             count: _,
             port,
@@ -515,16 +579,22 @@ fn labels_host(s: &[u8], start: usize, at: usize, left: usize, n: u64, next: usi
     ensures { λ r. ⌜ authorityIs r ≡ R.labelsHost (now (s .entry)) start at left (record { kind = Text; value = n; next = next }) ⌝ }
 {
     match label_body(s, 0, n, next) {
-        Step::Refused(k) => Authority::Refused(k, at),
+        Step::Refused(k) => Authority::Refused(Refusal {
+            number: k,
+            place: at, // of the label
+        }),
         Step::Next(after) => match names_at(s, after, left, 1) {
-            Names::Refused(k, place) => Authority::Refused(k, place),
+            Names::Refused(refusal) => Authority::Refused(refusal),
             Names::Are {
                 count,
                 port,
                 next: end,
             } => {
                 if !texts::name_rule(s, at, count) {
-                    return Authority::Refused(RULE, start);
+                    return Authority::Refused(Refusal {
+                        number: RULE,
+                        place: start, // of the authority
+                    });
                 }
                 Authority::Is(AuthorityAt {
                     at: start,
@@ -545,8 +615,14 @@ fn host_at(s: &[u8], start: usize, at: usize, items: usize) -> Authority
     match cbor::item_at(s, at, address_or_label()) {
         Item::ByteString { length: n, next } => address_host(s, start, at, items - 1, n, next),
         Item::Text { length: n, next } => labels_host(s, start, at, items - 1, n, next),
-        Item::Refused(n) => Authority::Refused(n, at),
-        _ => Authority::Refused(FORM, at),
+        Item::Refused(n) => Authority::Refused(Refusal {
+            number: n,
+            place: at,
+        }),
+        _ => Authority::Refused(Refusal {
+            number: FORM,
+            place: at,
+        }),
     }
 }
 
@@ -554,13 +630,19 @@ fn authority_at(s: &[u8], at: usize) -> Authority
     ensures { λ r. ⌜ authorityIs r ≡ R.readAuthority (now (s .entry)) at ⌝ }
 {
     match array_head(s, at) {
-        Head::Refused(n) => Authority::Refused(n, at),
+        Head::Refused(refusal) => Authority::Refused(refusal),
         Head::Is { value: items, next } => {
             if items < 1 {
-                return Authority::Refused(LIMIT, at);
+                return Authority::Refused(Refusal {
+                    number: LIMIT,
+                    place: at,
+                });
             }
             if AUTHORITY_ITEMS < items {
-                return Authority::Refused(LIMIT, at);
+                return Authority::Refused(Refusal {
+                    number: LIMIT,
+                    place: at,
+                });
             }
             host_at(s, at, next, items as usize)
         }
@@ -574,10 +656,13 @@ fn after_scheme(s: &[u8], at: usize, count: usize, scheme: SchemeAt, next: usize
     ensures { λ r. ⌜ openedIs r ≡ R.afterScheme (now (s .entry)) at count (schemeOf scheme) next ⌝ }
 {
     if count < 2 {
-        return Opened::Refused(FORM, at);
+        return Opened::Refused(Refusal {
+            number: FORM,
+            place: at,
+        });
     }
     match authority_at(s, next) {
-        Authority::Refused(k, place) => Opened::Refused(k, place),
+        Authority::Refused(refusal) => Opened::Refused(refusal),
         Authority::Is(authority) => {
             let end = authority.next;
             Opened::Is {
@@ -706,7 +791,10 @@ fn opening_at(s: &[u8], at: usize, count: usize) -> Opened
             left: count - 1,
         },
         First::Scheme { scheme, next } => after_scheme(s, at, count, scheme, next),
-        First::Refused(n) => Opened::Refused(n, at),
+        First::Refused(n) => Opened::Refused(Refusal {
+            number: n,
+            place: at,
+        }),
     }
 }
 
@@ -727,7 +815,10 @@ fn finish(s: &[u8], found: Found, next: usize) -> Answer
     ensures { λ r. ⌜ answerIs r ≡ readEnd (now (s .entry)) (foundOf found) next ⌝ }
 {
     if next < s.len() {
-        return Answer::Refused(TAIL, next);
+        return Answer::Refused(Refusal {
+            number: TAIL,
+            place: next,
+        });
     }
     Answer::Is(found)
 }
@@ -737,7 +828,7 @@ fn rest_at(s: &[u8], opening: OpeningAt, at: usize, left: usize) -> Answer
     ensures { λ r. ⌜ answerIs r ≡ readRest limits (now (s .entry)) (openingOf opening) at left ⌝ }
 {
     match array_at(s, at, left, Sort::Segment, 0, SEGMENTS as u64) {
-        SlotAt::Refused(k, place) => Answer::Refused(k, place),
+        SlotAt::Refused(refusal) => Answer::Refused(refusal),
         SlotAt::Is {
             slot: path,
             next: after_path,
@@ -750,13 +841,13 @@ fn rest_at(s: &[u8], opening: OpeningAt, at: usize, left: usize) -> Answer
                 1,
                 PARAMETERS as u64,
             ) {
-                SlotAt::Refused(k, place) => Answer::Refused(k, place),
+                SlotAt::Refused(refusal) => Answer::Refused(refusal),
                 SlotAt::Is {
                     slot: query,
                     next: after_query,
                 } => {
                     match fragment_at(s, after_query, minus(left, 2)) {
-                        SlotAt::Refused(k, place) => Answer::Refused(k, place),
+                        SlotAt::Refused(refusal) => Answer::Refused(refusal),
                         SlotAt::Is {
                             slot: fragment,
                             next: end,
@@ -782,7 +873,7 @@ fn items_at(s: &[u8], at: usize, count: usize) -> Answer
     ensures { λ r. ⌜ answerIs r ≡ readItems limits (now (s .entry)) at count ⌝ }
 {
     match opening_at(s, at, count) {
-        Opened::Refused(k, place) => Answer::Refused(k, place),
+        Opened::Refused(refusal) => Answer::Refused(refusal),
         Opened::Is {
             opening,
             next,
@@ -796,13 +887,19 @@ pub fn read(s: &[u8]) -> Answer
     ensures { λ r. ⌜ answerIs r ≡ R.read limits (now (s .entry)) ⌝ }
 {
     if BYTES < s.len() {
-        return Answer::Refused(LIMIT, BYTES);
+        return Answer::Refused(Refusal {
+            number: LIMIT,
+            place: BYTES,
+        });
     }
     match array_head(s, 0) {
-        Head::Refused(n) => Answer::Refused(n, 0),
+        Head::Refused(refusal) => Answer::Refused(refusal),
         Head::Is { value: count, next } => {
             if ITEMS < count {
-                return Answer::Refused(FORM, 0);
+                return Answer::Refused(Refusal {
+                    number: FORM,
+                    place: 0,
+                });
             }
             items_at(s, next, count as usize)
         }

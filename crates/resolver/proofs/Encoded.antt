@@ -1,4 +1,4 @@
--- The parts of a result as its encoding, their length, and the ruling.
+-- The parts of a result as its encoding, their length, and what the call answers.
 use Prim.Native.Nat.{ℕ, suc, _+_, _-_, _≤_, _<_}
 use native.Mathlib.Omega.{arith}
 use mathlib.Core.Path.{_≡_, refl, sym, ap, ap₂, _∙_}
@@ -15,8 +15,8 @@ use Rattle.rules.specs.Head.{headBytes, Array}
 use Rattle.rules.specs.Reader.{taken, Found, read}
 use Rattle.rules.specs.Meaning.{meaning, readReference, readAbsolute}
 use Rattle.rules.specs.Encode.{arrayItem, orNull, schemeItem, authorityItem, tailItems, withOpening, encode}
-use Rattle.rules.specs.Resolve.{start, resolve, asBase, fits, resolved}
-use Rattle.rules.specs.Calls.{refuse, write, ruling, resolveCall}
+use Rattle.rules.specs.Resolve.{start, resolve, asBase, fits}
+use Rattle.rules.specs.Calls.{resolveCall}
 use Rattle.rules.proofs.Tools.{by-test, length-part}
 use Rattle.rules.proofs.Steps.{ok-at, refused-ok}
 use Rattle.rules.proofs.Resolving.{resolved-is}
@@ -27,7 +27,7 @@ use Rattle.cbor.specs.Heads.{spanIs}
 use Rattle.resolver_parts.specs.declared.Both.{Both}
 use Rattle.resolver_parts.specs.declared.Parts.{Parts}
 use Rattle.resolver_parts.specs.Parts.{bothOf, BothInside, furtherItems, PartsAre}
-use Rattle.resolver.specs.Written.{BothSmall, pathHead, pathItems, PartsInside, PartsSmall, partsOf, partsRuling}
+use Rattle.resolver.specs.Written.{BothSmall, pathHead, pathItems, PartsInside, PartsSmall, partsOf, partsResult}
 use Rattle.resolver.proofs.ResultItems.{tail-bytes, tail-count, items-most}
 
 -- ---- its encoding
@@ -110,18 +110,18 @@ module _ (base ref : Bytes) (p : Parts) where
 
   -- ---- 5.5
 
-  pub over-segments : limits .segments < p .path .count → partsRuling base ref p ≡ refuse RESULT
-  unfolding partsRuling
+  pub over-segments : limits .segments < p .path .count → partsResult base ref p ≡ refused RESULT 0
+  unfolding partsResult need _>>_
   over-segments h = rw (lt-leb (p .path .count) (limits .segments) h)
 
-  pub over-bytes : limits .bytes < length (partsOf base ref p) → partsRuling base ref p ≡ refuse RESULT
-  unfolding partsRuling
+  pub over-bytes : limits .bytes < length (partsOf base ref p) → partsResult base ref p ≡ refused RESULT 0
+  unfolding partsResult need _>>_
   over-bytes h =
       rw (lt-leb (length (partsOf base ref p)) (limits .bytes) h)
-      (by-test (λ (t : Bool). cond (t && false) (write (partsOf base ref p)) (refuse RESULT) ≡ refuse RESULT) (leb (p .path .count) (limits .segments)) (λ _. refl) (λ _. refl))
+      (by-test (λ (t : Bool). (need (t && false) RESULT 0 >> ok (partsOf base ref p)) ≡ refused RESULT 0) (leb (p .path .count) (limits .segments)) (λ _. refl) (λ _. refl))
 
-  pub within-both : p .path .count ≤ limits .segments → length (partsOf base ref p) ≤ limits .bytes → partsRuling base ref p ≡ write (partsOf base ref p)
-  unfolding partsRuling
+  pub within-both : p .path .count ≤ limits .segments → length (partsOf base ref p) ≤ limits .bytes → partsResult base ref p ≡ ok (partsOf base ref p)
+  unfolding partsResult need _>>_
   within-both h k = rw (le-leb (p .path .count) (limits .segments) h, le-leb (length (partsOf base ref p)) (limits .bytes) k)
 
 -- parts of inputs that were accepted are small and inside
@@ -147,20 +147,14 @@ parts-small base ref p c h k a =
       further = omega (arith, a .tail .count, further-most (c .query) (c .fragment));
     }
 
--- ---- the ruling
+-- ---- the call
 
-need-result : (t : Bool) (w : Bytes) → ruling (need t RESULT 0 >> ok w) ≡ cond t (write w) (refuse RESULT)
-unfolding need _>>_
-need-result true w = refl
-need-result false w = refl
-
-pub ruled-parts : (base ref : Bytes) (b : Cri) (r : Reference) (p : Parts) → readAbsolute limits base ≡ ok b → readReference limits ref ≡ ok r → PartsAre base ref p (resolve b r)
-    → resolveCall limits base ref ≡ partsRuling base ref p
-unfolding resolveCall partsRuling fits
-ruled-parts base ref b r p d e h =
-    ap ruling (resolved-is limits base ref b r d e)
-    ∙ need-result _ _
-    ∙ ap₂ (λ (n : ℕ) (w : Bytes). cond (leb n (limits .segments) && leb (length w) (limits .bytes)) (write w) (refuse RESULT)) (sym (h .path .count)) (sym (parts-encode base ref p _ h))
+pub call-parts : (base ref : Bytes) (b : Cri) (r : Reference) (p : Parts) → readAbsolute limits base ≡ ok b → readReference limits ref ≡ ok r → PartsAre base ref p (resolve b r)
+    → resolveCall limits base ref ≡ partsResult base ref p
+unfolding partsResult fits
+call-parts base ref b r p d e h =
+    resolved-is limits base ref b r d e
+    ∙ ap₂ (λ (n : ℕ) (w : Bytes). need (leb n (limits .segments) && leb (length w) (limits .bytes)) RESULT 0 >> ok w) (sym (h .path .count)) (sym (parts-encode base ref p _ h))
 
 -- ---- the base
 
@@ -181,20 +175,22 @@ base-says bs f e =
     let c = absolute-opening bs f (h .1) in
     record { cri = c .0; found = h .0; says = c .1; absolute = absolute-read bs f (c .0) (h .0) (c .1) }
 
-pub base-refused : (base ref : Bytes) (n k : ℕ) → readBase limits base ≡ refused n k → resolveCall limits base ref ≡ refuse n
-unfolding resolveCall resolved readBase readAbsolute readReference need _>>_ _>>=_ given
+pub base-refused : (base ref : Bytes) (n k : ℕ) → readBase limits base ≡ refused n k → resolveCall limits base ref ≡ refused n k
+unfolding resolveCall readBase readAbsolute readReference need _>>_ _>>=_ given
 base-refused base ref n k e = go (read limits base) refl e
   where
-    judged : (g : Found) (t : Bool) → isAbsolute (g .opening) ≡ t → read limits base ≡ ok g → (need t BASE 0 >> ok g) ≡ refused n k → resolveCall limits base ref ≡ refuse n
+    judged : (g : Found) (t : Bool) → isAbsolute (g .opening) ≡ t → read limits base ≡ ok g → (need t BASE 0 >> ok g) ≡ refused n k
+        → resolveCall limits base ref ≡ refused n k
     judged g true a m e = refused-ok n k g (sym e)
-    judged g false a m e = let d : BASE ≡ n = cc in rw (m, relative-opening base g a) (ap refuse d)
+    judged g false a m e = let d : BASE ≡ n = cc in let o : 0 ≡ k = cc in rw (m, relative-opening base g a) (ap₂ refused d o)
 
-    go : (m : Res Found) → read limits base ≡ m → (asBase m >>= λ b. need (isAbsolute (b .opening)) BASE 0 >> ok b) ≡ refused n k → resolveCall limits base ref ≡ refuse n
-    go (refused i j) m e = let d : BASE ≡ n = cc in rw m (ap refuse d)
+    go : (m : Res Found) → read limits base ≡ m → (asBase m >>= λ b. need (isAbsolute (b .opening)) BASE 0 >> ok b) ≡ refused n k
+        → resolveCall limits base ref ≡ refused n k
+    go (refused i j) m e = let d : BASE ≡ n = cc in let o : j ≡ k = cc in rw m (ap₂ refused d o)
     go (ok g) m e = judged g (isAbsolute (g .opening)) refl m e
 
-pub reference-refused : (base ref : Bytes) (b : Cri) (n k : ℕ) → readAbsolute limits base ≡ ok b → read limits ref ≡ refused n k → resolveCall limits base ref ≡ refuse n
-unfolding resolveCall resolved readReference _>>=_
+pub reference-refused : (base ref : Bytes) (b : Cri) (n k : ℕ) → readAbsolute limits base ≡ ok b → read limits ref ≡ refused n k → resolveCall limits base ref ≡ refused n k
+unfolding resolveCall readReference _>>=_
 reference-refused base ref b n k d e = rw (d, e)
 
 pub read-reference : (ref : Bytes) (f : Found) → read limits ref ≡ ok f → readReference limits ref ≡ ok (meaning ref f)

@@ -1,2 +1,2 @@
--- The bytes of a result, and the ruling on them.
+-- The bytes of a result, and the refusal of those that are too many.
 pub mod Written

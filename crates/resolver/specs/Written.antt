@@ -1,15 +1,14 @@
 -- What is measured and written of the parts of a result.
 use Prim.Native.Nat.{ℕ, zero, suc, _+_, _≤_}
-use mathlib.Core.Bool.{cond, _&&_}
+use mathlib.Core.Bool.{_&&_}
 use mathlib.Core.List.{[], _++_}
 use lib.ListN.{length}
 use lib.Dec.{leb}
 use Rattle.rules.specs.Bytes.{Bytes}
-use Rattle.rules.specs.Result.{RESULT}
+use Rattle.rules.specs.Result.{Res, ok, need, _>>_, RESULT}
 use Rattle.rules.specs.Model.{limits}
 use Rattle.rules.specs.Head.{headBytes, Array}
 use Rattle.rules.specs.Encode.{nullItem}
-use Rattle.rules.specs.Calls.{Ruling, refuse, write}
 use Rattle.resolver_parts.specs.declared.Both.{Both}
 use Rattle.resolver_parts.specs.declared.Parts.{Parts}
 use Rattle.resolver_parts.specs.Parts.{bothOf, BothInside}
@@ -53,6 +52,7 @@ partsOf base ref p =
     ++ (bothOf base ref (p .path .texts) ++ bothOf base ref (p .tail .items))))
 
 -- RULES 5.5: 9 where there are too many segments or bytes
-unfoldable pub partsRuling : Bytes → Bytes → Parts → Ruling
-partsRuling base ref p =
-    cond (leb (p .path .count) (limits .segments) && leb (length (partsOf base ref p)) (limits .bytes)) (write (partsOf base ref p)) (refuse RESULT)
+unfoldable pub partsResult : Bytes → Bytes → Parts → Res Bytes
+partsResult base ref p = do
+  need (leb (p .path .count) (limits .segments) && leb (length (partsOf base ref p)) (limits .bytes)) RESULT 0
+  ok (partsOf base ref p)

@@ -6,18 +6,17 @@ ghost use Rattle.rules.specs.Bytes.{Bytes};
 ghost use Rattle.rules.specs.Model.{limits};
 ghost use Rattle.rules.specs.Calls.{outcome, after, resolveCall};
 ghost use Rattle.put.specs.Wrote.{Wrote};
-ghost use Rattle.outcomes.specs.Answers.{doneIs};
+ghost use Rattle.outcomes.specs.Answers.{outcomeIs};
 ghost use Rattle.resolver_parts.specs.Parts.{bothOf, BothInside};
-ghost use Rattle.resolver.specs.Written.{BothSmall, pathHead, pathItems, PartsInside, PartsSmall, partsOf, partsRuling};
+ghost use Rattle.resolver.specs.Written.{BothSmall, pathHead, pathItems, PartsInside, PartsSmall, partsOf, partsResult};
 use cbor::Kind;
 use cbor_heads::head_length;
 use cbor_heads::put_head;
 use numbers::BYTES;
-use numbers::DONE;
 use numbers::RESULT;
 use numbers::ROOM;
 use numbers::SEGMENTS;
-use outcomes::Done;
+use outcomes::Outcome;
 use put::put_part;
 use reader::Answer;
 use resolver_parts::Both;
@@ -112,37 +111,34 @@ fn put_parts(room: &mut [u8], base: &[u8], reference: &[u8], p: Parts) -> usize
 }
 
 // The answer, and the result in the room.
-fn put_result(base: &[u8], reference: &[u8], p: Parts, room: &mut [u8]) -> Done
+fn put_result(base: &[u8], reference: &[u8], p: Parts, room: &mut [u8]) -> Outcome
     requires { ⌜ PartsSmall p × PartsInside (now base) (now reference) p ⌝ }
-    ensures { λ r. ⌜ doneIs r ≡ outcome (partsRuling (now (base .entry)) (now (reference .entry)) p) (length (now (room .entry))) ⌝ }
-    ensures { λ _. ⌜ now (room .exit) ≡ after (partsRuling (now (base .entry)) (now (reference .entry)) p) (now (room .entry)) ⌝ }
+    ensures { λ r. ⌜ outcomeIs r ≡ outcome (partsResult (now (base .entry)) (now (reference .entry)) p) (length (now (room .entry))) ⌝ }
+    ensures { λ _. ⌜ now (room .exit) ≡ after (partsResult (now (base .entry)) (now (reference .entry)) p) (now (room .entry)) ⌝ }
 {
     let path = p.path;
     if SEGMENTS < path.count {
-        return outcomes::refused(RESULT); // too many segments
+        return outcomes::refused(RESULT, 0); // too many segments
     }
     let n = parts_length(p);
     if BYTES < n {
-        return outcomes::refused(RESULT); // too many bytes
+        return outcomes::refused(RESULT, 0); // too many bytes
     }
     if room.len() < n {
-        return outcomes::refused(ROOM);
+        return outcomes::refused(ROOM, 0);
     }
-    Done {
-        number: DONE,
-        length: put_parts(room, base, reference, p),
-    }
+    Outcome::Written(put_parts(room, base, reference, p))
 }
 
 // The answer, and the encoding of the resolved CRI in the room.
-pub fn resolve(base: &[u8], reference: &[u8], room: &mut [u8]) -> Done
-    ensures { λ r. ⌜ doneIs r ≡ outcome (resolveCall limits (now (base .entry)) (now (reference .entry))) (length (now (room .entry))) ⌝ }
+pub fn resolve(base: &[u8], reference: &[u8], room: &mut [u8]) -> Outcome
+    ensures { λ r. ⌜ outcomeIs r ≡ outcome (resolveCall limits (now (base .entry)) (now (reference .entry))) (length (now (room .entry))) ⌝ }
     ensures { λ _. ⌜ now (room .exit) ≡ after (resolveCall limits (now (base .entry)) (now (reference .entry))) (now (room .entry)) ⌝ }
 {
     match absolutes::read_base(base) {
-        Answer::Refused(k, _) => outcomes::refused(k),
+        Answer::Refused(refusal) => Outcome::Refused(refusal),
         Answer::Is(b) => match reader::read(reference) {
-            Answer::Refused(k, _) => outcomes::refused(k),
+            Answer::Refused(own) => Outcome::Refused(own),
             Answer::Is(r) => put_result(base, reference, parts_of(base, b, reference, r), room),
         },
     }

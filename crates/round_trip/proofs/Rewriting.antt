@@ -2,51 +2,62 @@
 use mathlib.Core.Path.{_≡_, refl, sym, ap, _∙_}
 use Rattle.rules.specs.Bytes.{Bytes, Octets}
 use Rattle.rules.specs.Result.{Res, refused, ok, _>>_}
-use Rattle.rules.specs.Model as Model
-use Rattle.rules.specs.Model.{limits}
+use Rattle.rules.specs.Model.{Components, limits}
 use Rattle.rules.specs.Reader.{Found, read}
-use Rattle.rules.specs.Writing as Writing
-use Rattle.rules.specs.Writing.{readCall}
-use Rattle.rules.specs.Calls.{refuse, writeCall}
-use Rattle.rules.proofs.Steps.{ok-at}
+use Rattle.rules.specs.Writing.{counted}
+use Rattle.rules.specs.Calls.{readCall, writeCall}
+use Rattle.rules.specs.Views.{verdict}
+use Rattle.rules.proofs.Steps.{ok-at, refused-ok}
 use Rattle.rules.proofs.Standing.{stands, all-counted}
 use Rattle.rules.proofs.RefusalNumbers.{call-accepted, call-refused, accepted}
 use Rattle.rules.proofs.RoundTrips.{read-write}
+use Rattle.refusals.specs.declared.Verdict.the-variants as VerdictV
+use Rattle.refusals.specs.Answers.{verdictIs}
 use Rattle.components.specs.declared.Reading.{Reading}
 use Rattle.components.specs.Content.{componentsOf}
-use Rattle.components.specs.Layout.{componentsLaid, readingLaid}
+use Rattle.components.specs.Layout.{readingLaid}
 use Rattle.components.proofs.Content.{components-said}
 use Rattle.round_trip.specs.Again.{again}
 
+-- the components of an accepted input are said by the struct
+pub said : (bs : Bytes) (c : Components) → Octets bs → readCall limits bs ≡ ok c → componentsOf (readingLaid (ok c) .components) ≡ c
+said bs c h e =
+    let a = accepted limits bs c e in
+    components-said c (sym (ap (counted limits) (a .2)) ∙ all-counted limits bs (a .0) (ok-at (stands limits bs h) (a .1)))
+
 -- of what reading answers
 module _ (bs : Bytes) (r : Reading) (told : r ≡ readingLaid (readCall limits bs)) where
-  number : r .number ≡ readCall limits bs .number
-  number = ap (λ (x : Reading). x .number) told
+  laid : (m : Res Components) → verdictIs (readingLaid m .verdict) ≡ verdict m
+  laid (refused n k) = refl
+  laid (ok c) = refl
 
-  -- a number that is not 0 is the refusal's
-  pub again-refused : (r .number ≡ 0 → ⊥) → again limits bs ≡ refuse (r .number)
+  verdict-told : verdictIs (r .verdict) ≡ verdict (readCall limits bs)
+  verdict-told = ap (λ (x : Reading). verdictIs (x .verdict)) told ∙ laid (readCall limits bs)
+
+  -- the verdict's refusal, or the bytes
+  pub again-told : again limits bs ≡ (verdictIs (r .verdict) >> ok bs)
   unfolding again _>>_
-  again-refused h = go (read limits bs) refl
+  again-told = go (read limits bs) refl ∙ ap (λ (v : Res (Unit {0})). v >> ok bs) (sym verdict-told)
     where
-      go : (x : Res Found) → read limits bs ≡ x → again limits bs ≡ refuse (r .number)
-      go (refused n k) e = rw e (ap refuse (ap (λ (x : Writing.Reading). x .number) (call-refused limits bs n k e) ∙ sym number))
-      go (ok f) e = absurd (h (number ∙ ap (λ (x : Writing.Reading). x .number) (sym (call-accepted limits bs f e))))
+      go : (x : Res Found) → read limits bs ≡ x → again limits bs ≡ (verdict (readCall limits bs) >> ok bs)
+      go (refused n k) e = rw (e, sym (call-refused limits bs n k e))
+      go (ok f) e = rw (e, sym (call-accepted limits bs f e))
 
-  -- with 0, the struct says the components of the rules
-  pub reading-said : Octets bs → r .number ≡ 0 → componentsOf (r .components) ≡ readCall limits bs .components
-  reading-said h z =
-      let a = accepted limits bs (sym number ∙ z) in
-      let call = ap (λ (x : Writing.Reading). x .components) (call-accepted limits bs (a .0) (a .1)) in
-      ap (λ (x : Reading). componentsOf (x .components)) told
-      ∙ ap (λ (c : Model.Components). componentsOf (componentsLaid c)) (sym call)
-      ∙ components-said _ (all-counted limits bs (a .0) (ok-at (stands limits bs h) (a .1)))
-      ∙ call
+  -- an accepted input has components
+  accepted-read : r .verdict ≡ VerdictV.Accepted → (c : Components) × (readCall limits bs ≡ ok c)
+  accepted-read e = go (readCall limits bs) refl
+    where
+      go : (m : Res Components) → readCall limits bs ≡ m → (c : Components) × (readCall limits bs ≡ ok c)
+      go (refused n k) d = refused-ok n k tt (sym (verdict-told ∙ ap verdict d) ∙ ap verdictIs e)
+      go (ok c) d = (c, d)
 
-  -- and these are written as the bytes again
-  pub again-written : Octets bs → r .number ≡ 0 → writeCall limits (componentsOf (r .components)) bs ≡ again limits bs
-  unfolding again _>>_
-  again-written h z =
-      let zero : readCall limits bs .number ≡ 0 = sym number ∙ z in
-      ap (λ (c : Model.Components). writeCall limits c bs) (reading-said h z)
-      ∙ read-write limits bs h zero
-      ∙ rw (accepted limits bs zero .1)
+  -- which are written as its bytes again
+  pub again-written : Octets bs → r .verdict ≡ VerdictV.Accepted → writeCall limits (componentsOf (r .components)) bs ≡ again limits bs
+  unfolding _>>_
+  again-written h e =
+      let a = accepted-read e in
+      let c : Components = a .0 in
+      let same : componentsOf (r .components) ≡ c = ap (λ (x : Reading). componentsOf (x .components)) (told ∙ ap readingLaid (a .1)) ∙ said bs c h (a .1) in
+      ap (λ (c : Components). writeCall limits c bs) same
+      ∙ read-write limits bs c h (a .1)
+      ∙ sym (again-told ∙ rw e)

@@ -3,42 +3,42 @@ ghost use mathlib.Core.Path.{_≡_};
 ghost use lib.ListN.{length};
 ghost use Rattle.rules.specs.Model.{limits};
 ghost use Rattle.rules.specs.Calls.{outcome, after};
-ghost use Rattle.outcomes.specs.Answers.{doneIs};
+ghost use Rattle.outcomes.specs.Answers.{outcomeIs};
 ghost use Rattle.round_trip.specs.Again.{again};
 ghost use Rattle.round_trip.specs.Rereading.{Rereads};
 use cri::Components;
-use cri::Done;
+use cri::Outcome;
 use cri::Reading;
-use numbers::DONE;
+use cri::Verdict;
 
 // What writing answered, and what reading answers of the bytes that it wrote.
 pub struct ReadBack {
-    pub written: Done,
+    pub written: Outcome,
     pub reading: Reading,
 }
 
-// Reads s, and writes the components that reading reports, with s as the lent bytes, into the room: the number that reading has for s;
+// Reads s, and writes the components that reading reports, with s as the lent bytes, into the room: the refusal that reading has for s;
 // or s again, every byte of it; 10 where the room is shorter than s.
-pub fn rewrite(s: &[u8], room: &mut [u8]) -> Done
-    ensures { λ r. ⌜ doneIs r ≡ outcome (again limits (now (s .entry))) (length (now (room .entry))) ⌝ }
+pub fn rewrite(s: &[u8], room: &mut [u8]) -> Outcome
+    ensures { λ r. ⌜ outcomeIs r ≡ outcome (again limits (now (s .entry))) (length (now (room .entry))) ⌝ }
     ensures { λ _. ⌜ now (room .exit) ≡ after (again limits (now (s .entry))) (now (room .entry)) ⌝ }
 {
     let reading = cri::read(s);
-    if reading.number != DONE {
-        return outcomes::refused(reading.number);
-    }
+    let verdict = reading.verdict;
     let components = reading.components;
-    cri::write(components, s, room)
+    match verdict {
+        Verdict::Refused(refusal) => Outcome::Refused(refusal),
+        Verdict::Accepted => cri::write(components, s, room),
+    }
 }
 
 // Writes a reference from components, whose texts and addresses stand in `lent`, into the room, as cri::write does, and reads what was
-// written. Where writing is done, reading is too, and reports the same contents. Where it is refused, no bytes are read: 1, and every
-// component unset.
+// written. Where writing is done, reading is too, and reports the same contents. Where it is refused, no bytes are read: 1 at 0.
 pub fn reread(components: Components, lent: &[u8], room: &mut [u8]) -> ReadBack
     ensures { λ r. ⌜ Rereads components (now (lent .entry)) (now (room .entry)) r (now (room .exit)) ⌝ }
 {
     let written = cri::write(components, lent, room);
-    let n = written.length;
+    let n = outcomes::written(written);
     ReadBack {
         written: written,
         reading: cri::read(&room[..n]),

@@ -18,7 +18,7 @@ use Rattle.rules.specs.Encode.{encode}
 use Rattle.rules.specs.Valid.{If, Good, GoodTexts, GoodAuthority, GoodScheme, GoodOpening, Valid}
 use Rattle.rules.specs.Resolve.{fits}
 use Rattle.rules.specs.Text.{uriText}
-use Rattle.rules.specs.Calls.{Ruling, refuse, write, ruling, printed, textCall}
+use Rattle.rules.specs.Calls.{textCall}
 use Rattle.rules.proofs.Tools.{and-left, and-right, and-both, within-high, is-within}
 use Rattle.rules.proofs.Steps.{refused-ok, none-some, bind-ok, ok!, ok-bind, ok-given, ok-at}
 use Rattle.rules.proofs.Reading.{canonical, complete}
@@ -98,18 +98,10 @@ unfolding readAbsolute readReference
 absolute-size lim bs c e =
     ok-at {P = λ c. length bs ≤ lim .bytes} (ok-bind {P = λ r. length bs ≤ lim .bytes} _ _ (ok-bind _ _ (read-size lim bs) (λ f s. ok! s)) (λ r s. ok-given _ _ _ (λ c e. s))) e
 
--- what the URI text call rules on it, and on what is refused
-abbrev pub textRuling : Res Cri → Ruling
-textRuling (refused n k) = refuse n
-textRuling (ok c) = write (uriText c)
-
-pub text-ruled : (lim : Limits) (bs : Bytes) (r : Res Cri) → readAbsolute lim bs ≡ r → textCall lim bs ≡ textRuling r
-unfolding textCall printed _>>=_
-text-ruled lim bs r e = ap (λ (m : Res Cri). ruling (m >>= λ c. ok (uriText c))) e ∙ go r
-  where
-    go : (r : Res Cri) → ruling (r >>= λ c. ok (uriText c)) ≡ textRuling r
-    go (refused n k) = refl
-    go (ok c) = refl
+-- the URI text call on it
+pub text-of : (lim : Limits) (bs : Bytes) (c : Cri) → readAbsolute lim bs ≡ ok c → textCall lim bs ≡ ok (uriText c)
+unfolding textCall _>>=_
+text-of lim bs c e = rw e
 
 -- ---- what a CRI keeps
 

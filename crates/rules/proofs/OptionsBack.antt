@@ -18,7 +18,7 @@ use Rattle.rules.specs.Valid.{If, Good, GoodTexts, GoodAddress, GoodHost
 use Rattle.rules.specs.Numeral.{digitByte, decimal}
 use Rattle.rules.specs.Address.{ipv4Text, ipv6Text, rightBracket, addressText}
 use Rattle.rules.specs.Options.{CoapOption, option, uriHost, portBytes, uriPort, options, coapScheme, nibble, extension, optionBytes, optionsFrom, Extended, reads, oneByteMore, twoBytesMore, extended, OptionAt, optionAt, readOption, readOptionsFrom, readOptions, Rising, GoodOption, Codable}
-use Rattle.rules.specs.Calls.{ruling, write, absent, requested}
+use Rattle.rules.specs.Calls.{absent, optionsCall}
 use Rattle.rules.specs.Promises.{Requested}
 use Rattle.rules.proofs.Tools.{All, tests, and-left, and-right, never, cond-split, within-high, each-append, each-map, each-all, each-take, each-drop}
 use Rattle.rules.proofs.Steps.{none-some, Ok, no!, ok!, ok-bind, ok-need, ok-given}
@@ -396,14 +396,10 @@ codable os u =
 
 -- ---- the call
 
--- the tests and answers of the call
+-- the tests of the call
 absent-none : {A : Type 0} (o : Option A) → absent o ≡ true → o ≡ none
 absent-none none e = refl
 absent-none (some a) e = never e
-
-pub ruling-ok : (r : Res Bytes) (w : Bytes) → ruling r ≡ write w → r ≡ ok w
-ruling-ok (refused n k) w e = cc
-ruling-ok (ok v) w e = cc
 
 ok-self : {A : Type 0} (m : Res A) → Ok (λ a. m ≡ ok a) m
 ok-self (refused n k) = no!
@@ -416,8 +412,8 @@ options-read os k = options-back (length (optionsFrom 0 os)) 0 os (k .rising) (k
 
 -- what the call writes is read as the options of what it read
 pub requested-read : (lim : Limits) (bs toAddress : Bytes) (toPort : ℕ) → Octets bs
-    → Ok (Requested lim bs toAddress toPort) (requested lim bs toAddress toPort)
-unfolding requested
+    → Ok (Requested lim bs toAddress toPort) (optionsCall lim bs toAddress toPort)
+unfolding optionsCall
 requested-read lim bs toAddress toPort h =
     ok-need _ DEST 0 _ (λ z. ok-bind (readAbsolute lim bs) _ (ok-self (readAbsolute lim bs))
     (λ c r. ok-bind {P = λ e. coapScheme (c .scheme) ≡ some e} _ _ (ok-given (coapScheme (c .scheme)) COAP 0 (λ e s. s))

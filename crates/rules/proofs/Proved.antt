@@ -8,7 +8,7 @@ use lib.ListN.{length, drop}
 use lib.Seq.{take-at}
 use borrow.Author.Tests.{le-ltb}
 use Rattle.rules.specs.Bytes.{Bytes, hex}
-use Rattle.rules.specs.Result.{ok, need, _>>_}
+use Rattle.rules.specs.Result.{Res, ok, need, _>>_}
 use Rattle.rules.specs.Model.{Cri, reference, normal}
 use Rattle.rules.specs.Meaning.{readReference}
 use Rattle.rules.specs.Encode.{encode}
@@ -16,21 +16,21 @@ use Rattle.rules.specs.Valid.{If, Valid}
 use Rattle.rules.specs.Resolve.{resolve}
 use Rattle.rules.specs.Text.{uriText}
 use Rattle.rules.specs.Options.{options, optionsFrom, readOptions}
-use Rattle.rules.specs.Calls.{Ruling, write, Done, outcome, after, textCall, resolveCall, optionsCall}
-use Rattle.rules.specs.Cases.{starred, unstarred, slips, steps, refusals, accepted, sizes, texts, escaped, requests, codings, addresses, segmentRows, authorityRows}
+use Rattle.rules.specs.Calls.{lengthOf, outcome, after, textCall, optionsCall}
+use Rattle.rules.specs.Cases.{starred, unstarred, slips, steps, refusals, accepted, sizes, texts, escaped, requests, codings, addresses, segmentRows, authorityRows, bases}
 use Rattle.rules.specs.Promises as P
-use Rattle.rules.specs.Promises.{done, shown, Writes, unfragmented}
+use Rattle.rules.specs.Promises.{shown, Writes, unfragmented}
 use Rattle.rules.proofs.Steps.{ok-at}
 use Rattle.rules.proofs.Reading.{canonical, complete, prefix-refused, prefix-accepted}
 use Rattle.rules.proofs.RefusalNumbers.{numbers}
 use Rattle.rules.proofs.RoundTrips.{read-write, write-read}
 use Rattle.rules.proofs.Encoding.{encode-octets}
-use Rattle.rules.proofs.Absolutes.{withPath, absolute-same, read-as, text-ruled, GoodCri, good-read, fits-valid, valid-fits, fits-read}
+use Rattle.rules.proofs.Absolutes.{withPath, absolute-same, read-as, text-of, GoodCri, good-read, fits-valid, valid-fits, fits-read}
 use Rattle.rules.proofs.TextBack.{text-same}
 use Rattle.rules.proofs.TextBound.{read-bound}
 use Rattle.rules.proofs.Resolving.{nothing, resolve-nothing, resolve-empty, resolve-again, resolve-absolute, good-resolve, resolved-is, resolve-writes}
 use Rattle.rules.proofs.ResolvedAgain.{encode-some, valid-unfragmented, valid-normal, read-nothing}
-use Rattle.rules.proofs.OptionsBack.{options-octets, options-read, IsOptions, is-options, ruling-ok, requested-read}
+use Rattle.rules.proofs.OptionsBack.{options-octets, options-read, IsOptions, is-options, requested-read}
 use Rattle.rules.proofs.OptionsBound.{read-options-bound}
 use Rattle.rules.proofs.CallNumbers.{untouched, room-numbers, read-answers, resolve-answers, text-answers, options-answers, write-answers}
 use Rattle.rules.proofs.ViewNumbers.{segment-answers, authority-answers}
@@ -75,19 +75,19 @@ call-numbers-proved =
 -- ---- what a call writes
 
 -- with room enough, what is written is written whole
-pub enough : (u : Ruling) (w : Bytes) (n : ℕ) → u ≡ write w → length w ≤ n → outcome u n ≡ done (length w)
+pub enough : (u : Res Bytes) (w : Bytes) (n : ℕ) → u ≡ ok w → length w ≤ n → outcome u n ≡ ok (length w)
 unfolding outcome
 enough u w n e h = rw (e, le-ltb n (length w) h)
 
-pub shown-enough : (u : Ruling) (w room : Bytes) → u ≡ write w → length w ≤ length room → shown u room ≡ w
+pub shown-enough : (u : Res Bytes) (w room : Bytes) → u ≡ ok w → length w ≤ length room → shown u room ≡ w
 unfolding outcome after
 shown-enough u w room e h = rw (e, le-ltb (length room) (length w) h) (take-at w (drop (length w) room) (length w) refl)
 
-pub writes : (u : Ruling) (w : Bytes) → u ≡ write w → Writes u w
-writes u w e = record { ruled = e; told = λ room h. enough u w (length room) e h; bytes = λ room h. shown-enough u w room e h }
+pub writes : (u : Res Bytes) (w : Bytes) → u ≡ ok w → Writes u w
+writes u w e = record { output = e; told = λ room h. enough u w (length room) e h; bytes = λ room h. shown-enough u w room e h }
 
 pub read-write-proved : P.ReadWrite
-read-write-proved lim bs h z = writes _ bs (read-write lim bs h z)
+read-write-proved lim bs c h z = writes _ bs (read-write lim bs c h z)
 
 pub write-read-proved : P.WriteRead
 write-read-proved = write-read
@@ -96,8 +96,8 @@ write-read-proved = write-read
 
 pub demand3-proved : P.Demand3
 demand3-proved lim a b c d ha hb ea eb x y hx hy =
-    let u = text-ruled lim a (ok c) ea in
-    let v = text-ruled lim b (ok d) eb in
+    let u = text-of lim a c ea in
+    let v = text-of lim b d eb in
     let m = enough (textCall lim a) (uriText c) (length x) u hx in
     let n = enough (textCall lim b) (uriText d) (length y) v hy in
     let s = shown-enough (textCall lim a) (uriText c) x u hx in
@@ -110,19 +110,19 @@ demand3-proved lim a b c d ha hb ea eb x y hx hy =
       secondText = t;
       same = (
         λ e. same .0 (sym s ∙ e .1 ∙ t),
-        λ e. (ap (λ (r : Done). r .length) m ∙ ap length (same .1 e) ∙ sym (ap (λ (r : Done). r .length) n), s ∙ same .1 e ∙ sym t),
+        λ e. (ap lengthOf m ∙ ap length (same .1 e) ∙ sym (ap lengthOf n), s ∙ same .1 e ∙ sym t),
       );
     }
 
 pub bound-proved : P.Bound
 bound-proved lim bs c h e =
     let l : length (uriText c) ≤ 3 * length bs + 13 = read-bound lim bs c h e in
-    (l, λ n k. enough (textCall lim bs) (uriText c) n (text-ruled lim bs (ok c) e) (omega arith))
+    (l, λ n k. enough (textCall lim bs) (uriText c) n (text-of lim bs c e) (omega arith))
 
 -- ---- resolving
 
 pub resolving-proved : P.Resolving
-unfolding resolveCall need _>>_
+unfolding need _>>_
 resolving-proved lim small base ref b r hb hr eb er =
     let c : Cri = resolve b r in
     let g : GoodCri c = good-resolve lim b r (good-read lim base b hb eb) (ok-at (canonical lim ref hr) er .1) in
@@ -170,8 +170,7 @@ options-exact-proved bs os h = (
 )
 
 pub options-read-proved : P.OptionsRead
-unfolding optionsCall
-options-read-proved lim bs toAddress toPort w h e = ok-at (requested-read lim bs toAddress toPort h) (ruling-ok _ w e)
+options-read-proved lim bs toAddress toPort w h e = ok-at (requested-read lim bs toAddress toPort h) e
 
 pub options-bound-proved : P.OptionsBound
 options-bound-proved lim bs toAddress toPort w h e =
@@ -187,7 +186,7 @@ unfolding computed starred
 starred-proved = refl
 
 pub examples-proved : P.Examples
-unfolding computed unstarred slips steps refusals accepted sizes texts escaped requests codings addresses segmentRows authorityRows
+unfolding computed unstarred slips steps refusals accepted sizes texts escaped requests codings addresses segmentRows authorityRows bases
 examples-proved =
     record {
       rows = refl;
@@ -203,4 +202,5 @@ examples-proved =
       ipv6 = refl;
       segments = refl;
       authorities = refl;
+      bases = refl;
     }

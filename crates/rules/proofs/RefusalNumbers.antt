@@ -1,17 +1,18 @@
--- The reader's refusals are numbered 1 to 7, so that the number 0 means accepted.
+-- The reader's refusals are numbered 1 to 7; and what the call of reading answers.
 use Prim.Native.Nat.{ℕ, zero, suc, _≤_}
 use native.Mathlib.Omega.{arith}
-use mathlib.Core.Path.{_≡_, refl, ap, subst}
+use mathlib.Core.Path.{_≡_, refl, subst, _∙_}
 use mathlib.Core.Bool.{Bool, true, false}
 use Rattle.rules.specs.Bytes.{Bytes, within}
 use Rattle.rules.specs.Result.{Res, refused, ok, _>>=_, _>>_, need, if_then_else_}
-use Rattle.rules.specs.Model.{Limits}
+use Rattle.rules.specs.Model.{Limits, Components}
 use Rattle.rules.specs.Head.{Kind, Number, Negative, ByteString, Text, Array, True, Null, Other, Head, readHead}
 use Rattle.rules.specs.Rules.{Sort}
 use Rattle.rules.specs.Reader.{readContent, textBody, readText, readRow, nullBody, arrayBody, readArray, fragmentBody, readFragment, readNothing, portBody, readPort, labelBody, readNames, addressHost, labelsHost, readAuthority, SchemeAt, afterScheme, openingBody, readOpening, Found, read}
 use Rattle.rules.specs.Meaning.{components}
-use Rattle.rules.specs.Writing.{Reading, noComponents, readCall}
+use Rattle.rules.specs.Calls.{readCall}
 use Rattle.rules.proofs.Tools.{within-low, within-high}
+use Rattle.rules.proofs.Steps.{refused-ok}
 
 -- a refusal with a number from 1 to 7, or a value
 data Numbered {A : Type 0} : Res A → Type 0 where
@@ -136,18 +137,18 @@ numbers lim bs n k e = numbered-at n k (subst Numbered e (read-numbered lim bs))
 
 -- ---- what a call of reading answers
 
-pub call-accepted : (lim : Limits) (bs : Bytes) (f : Found) → read lim bs ≡ ok f → _≡_ {A = Reading} (record { number = 0; components = components bs f }) (readCall lim bs)
-unfolding readCall
+pub call-accepted : (lim : Limits) (bs : Bytes) (f : Found) → read lim bs ≡ ok f → ok (components bs f) ≡ readCall lim bs
+unfolding readCall _>>=_
 call-accepted lim bs f e = rw e
 
-pub call-refused : (lim : Limits) (bs : Bytes) (n k : ℕ) → read lim bs ≡ refused n k → _≡_ {A = Reading} (record { number = n; components = noComponents }) (readCall lim bs)
-unfolding readCall
+pub call-refused : (lim : Limits) (bs : Bytes) (n k : ℕ) → read lim bs ≡ refused n k → refused n k ≡ readCall lim bs
+unfolding readCall _>>=_
 call-refused lim bs n k e = rw e
 
--- the number 0 is the number of an accepted input
-pub accepted : (lim : Limits) (bs : Bytes) → readCall lim bs .number ≡ 0 → (f : Found) × (read lim bs ≡ ok f)
-accepted lim bs e = go (read lim bs) refl
+-- its components are those of what was found
+pub accepted : (lim : Limits) (bs : Bytes) (c : Components) → readCall lim bs ≡ ok c → (f : Found) × (read lim bs ≡ ok f) × (components bs f ≡ c)
+accepted lim bs c e = go (read lim bs) refl
   where
-    go : (r : Res Found) → read lim bs ≡ r → (f : Found) × (read lim bs ≡ ok f)
-    go (refused n k) d = absurd (omega (arith, e, numbers lim bs n k d .0, ap (λ (x : Reading). x .number) (call-refused lim bs n k d)))
-    go (ok f) d = (f, d)
+    go : (r : Res Found) → read lim bs ≡ r → (f : Found) × (read lim bs ≡ ok f) × (components bs f ≡ c)
+    go (refused n k) d = refused-ok n k c (call-refused lim bs n k d ∙ e)
+    go (ok f) d = let same : ok (components bs f) ≡ ok c = call-accepted lim bs f d ∙ e in (f, d, cc)

@@ -12,8 +12,8 @@ use Rattle.rules.specs.Rules.{segment, parameter, fragmentText}
 use Rattle.rules.specs.Meaning.{readReference, readAbsolute}
 use Rattle.rules.specs.Encode.{encode}
 use Rattle.rules.specs.Valid.{If, Good, GoodTexts, GoodAuthority, GoodScheme, GoodOpening, Valid}
-use Rattle.rules.specs.Resolve.{start, cleared, discarded, appended, or, unlessSet, openingScheme, openingAuthority, copied, resolve, fits, resolved}
-use Rattle.rules.specs.Calls.{write, resolveCall}
+use Rattle.rules.specs.Resolve.{start, cleared, discarded, appended, or, unlessSet, openingScheme, openingAuthority, copied, resolve, fits}
+use Rattle.rules.specs.Calls.{resolveCall}
 use Rattle.rules.specs.Promises.{unfragmented}
 use Rattle.rules.proofs.Tools.{each-append, each-take}
 use Rattle.rules.proofs.Absolutes.{withPath, GoodCri}
@@ -139,11 +139,11 @@ good-resolve lim b r g v =
 -- ---- the refusals of a resolved CRI
 
 pub resolved-is : (lim : Limits) (base ref : Bytes) (b : Cri) (r : Reference) → readAbsolute lim base ≡ ok b → readReference lim ref ≡ ok r
-    → resolved lim base ref ≡ (need (fits lim (resolve b r)) RESULT 0 >> ok (encode (reference (resolve b r))))
-unfolding resolved _>>=_
+    → resolveCall lim base ref ≡ (need (fits lim (resolve b r)) RESULT 0 >> ok (encode (reference (resolve b r))))
+unfolding resolveCall _>>=_
 resolved-is lim base ref b r e f = rw (e, f)
 
 pub resolve-writes : (lim : Limits) (base ref : Bytes) (b : Cri) (r : Reference) (c : Cri) → readAbsolute lim base ≡ ok b → readReference lim ref ≡ ok r
-    → resolve b r ≡ c → fits lim c ≡ true → resolveCall lim base ref ≡ write (encode (reference c))
-unfolding resolveCall need _>>_
+    → resolve b r ≡ c → fits lim c ≡ true → resolveCall lim base ref ≡ ok (encode (reference c))
+unfolding need _>>_
 resolve-writes lim base ref b r c eb er e f = rw (resolved-is lim base ref b r eb er, e, f)

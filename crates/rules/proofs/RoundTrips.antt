@@ -15,8 +15,9 @@ use Rattle.rules.specs.Reader.{taken, Found, read}
 use Rattle.rules.specs.Meaning.{components, meaning, readReference}
 use Rattle.rules.specs.Encode.{encode}
 use Rattle.rules.specs.Valid.{If}
-use Rattle.rules.specs.Writing.{labelsOf, openingLabels, allTexts, SizedScheme, SizedOpening, Sized, counted, Lie, placeless, written, Reading, readCall}
-use Rattle.rules.specs.Calls.{write, ruling, writeCall}
+use Rattle.rules.specs.Writing.{labelsOf, openingLabels, allTexts, SizedScheme, SizedOpening, Sized, counted, Lie, placeless}
+use Rattle.rules.specs.Calls.{readCall, writeCall}
+use Rattle.rules.specs.Promises.{Reread}
 use Rattle.rules.specs.Standing.{FoundStands}
 use Rattle.rules.proofs.Tools.{and-left, and-right, part-most}
 use Rattle.rules.proofs.Steps.{Ok, no!, ok!, ok-need, ok-at, bind-ok}
@@ -32,8 +33,8 @@ use Rattle.rules.proofs.RefusalNumbers.{call-accepted, accepted}
 
 -- components of which everything is in order, and whose encoding is accepted, are written
 write-accepted : (lim : Limits) (c : Components) (lent : Bytes) (f : Found) → counted lim c ≡ true → Lie lent (allTexts c)
-    → read lim (encode (mapParts (taken lent) c)) ≡ ok f → writeCall lim c lent ≡ write (encode (mapParts (taken lent) c))
-unfolding writeCall written need _>>_
+    → read lim (encode (mapParts (taken lent) c)) ≡ ok f → writeCall lim c lent ≡ ok (encode (mapParts (taken lent) c))
+unfolding writeCall need _>>_
 write-accepted lim c lent f n i e = rw (n, i, e)
 
 -- an accepted input is the encoding of what it says
@@ -41,15 +42,16 @@ read-encodes : (lim : Limits) (bs : Bytes) (f : Found) → Octets bs → read li
 unfolding readReference meaning
 read-encodes lim bs f h e = ok-at (canonical lim bs h) (sym (bind-ok (read lim bs) (λ f. ok (meaning bs f)) f (sym e))) .0
 
-pub read-write : (lim : Limits) (bs : Bytes) → Octets bs → readCall lim bs .number ≡ 0 → writeCall lim (readCall lim bs .components) bs ≡ write bs
-read-write lim bs h z =
-    let a = accepted lim bs z in
+pub read-write : (lim : Limits) (bs : Bytes) (c : Components) → Octets bs → readCall lim bs ≡ ok c → writeCall lim c bs ≡ ok bs
+read-write lim bs c h z =
+    let a = accepted lim bs c z in
     let f : Found = a .0 in
-    let s : FoundStands lim bs f = ok-at (stands lim bs h) (a .1) in
-    let same = read-encodes lim bs f h (a .1) in
-    ap (λ (x : Reading). writeCall lim (x .components) bs) (sym (call-accepted lim bs f (a .1)))
-    ∙ write-accepted lim (components bs f) bs f (all-counted lim bs f s) (all-inside lim bs f s) (ap (read lim) same ∙ a .1)
-    ∙ ap write same
+    let e : read lim bs ≡ ok f = a .1 in
+    let s : FoundStands lim bs f = ok-at (stands lim bs h) e in
+    let same = read-encodes lim bs f h e in
+    ap (λ (x : Components). writeCall lim x bs) (sym (a .2))
+    ∙ write-accepted lim (components bs f) bs f (all-counted lim bs f s) (all-inside lim bs f s) (ap (read lim) same ∙ e)
+    ∙ ap ok same
 
 -- ---- reading what was written
 
@@ -60,22 +62,14 @@ record Written (lim : Limits) (c : Components) (lent w : Bytes) : Type 0 where
   pub reads : read lim (encode (mapParts (taken lent) c)) ≡ ok found
   pub bytes : w ≡ encode (mapParts (taken lent) c)
 
-written-ok : (lim : Limits) (c : Components) (lent : Bytes) → Ok (λ w. Written lim c lent w) (written lim c lent)
-unfolding written _>>_
+written-ok : (lim : Limits) (c : Components) (lent : Bytes) → Ok (λ w. Written lim c lent w) (writeCall lim c lent)
+unfolding writeCall _>>_
 written-ok lim c lent = ok-need _ _ _ _ (λ n. ok-need _ _ _ _ (λ i. go n (read lim (encode (mapParts (taken lent) c))) refl))
   where
     go : counted lim c ≡ true → (r : Res Found) → read lim (encode (mapParts (taken lent) c)) ≡ r
         → Ok (λ w. Written lim c lent w) (placeless r >> ok (encode (mapParts (taken lent) c)))
     go n (refused k at) e = no!
     go n (ok f) e = ok! (record { counts = n; found = f; reads = e; bytes = refl })
-
-write-ok : (lim : Limits) (c : Components) (lent w : Bytes) → writeCall lim c lent ≡ write w → Written lim c lent w
-unfolding writeCall
-write-ok lim c lent w e = go (written lim c lent) refl e
-  where
-    go : (r : Res Bytes) → written lim c lent ≡ r → ruling r ≡ write w → Written lim c lent w
-    go (refused k at) d e = let z : _≡_ {A = ℕ} 0 1 = cc in absurd (omega arith)
-    go (ok x) d e = let same : x ≡ w = cc in subst (Written lim c lent) same (ok-at (written-ok lim c lent) d)
 
 -- heads can carry the numbers, lengths and counts of components that are sized and counted
 module _ (lent : Bytes) (small : length lent < 2 ^ 64) where
@@ -123,16 +117,16 @@ module _ (lent : Bytes) (small : length lent < 2 ^ 64) where
         fragment = fit-text (c .fragment);
       }
 
-pub write-read : (lim : Limits) → lim .segments < 2 ^ 64 → (c : Components) (lent w : Bytes) → length lent < 2 ^ 64 → Sized c → writeCall lim c lent ≡ write w
-    → (readCall lim w .number ≡ 0) × (mapParts (taken w) (readCall lim w .components) ≡ mapParts (taken lent) c)
+pub write-read : (lim : Limits) → lim .segments < 2 ^ 64 → (c : Components) (lent w : Bytes) → length lent < 2 ^ 64 → Sized c → writeCall lim c lent ≡ ok w
+    → Reread lim c lent w
 unfolding meaning
 write-read lim most c lent w small z e =
-    let x : Written lim c lent w = write-ok lim c lent w e in
+    let x : Written lim c lent w = ok-at (written-ok lim c lent) e in
     let r : Reference = mapParts (taken lent) c in
     let f : Found = x .found in
-    let call = call-accepted lim (encode r) f (x .reads) in
-    let same = ok-at (says lim r (fit-components lent small lim most c z (x .counts))) (x .reads) in
-    rw (x .bytes) (
-      ap (λ (a : Reading). a .number) (sym call),
-      ap (λ (a : Reading). mapParts (taken (encode r)) (a .components)) (sym call) ∙ same,
-    )
+    rw (x .bytes)
+    (record {
+      components = components (encode r) f;
+      accepted = sym (call-accepted lim (encode r) f (x .reads));
+      contents = ok-at (says lim r (fit-components lent small lim most c z (x .counts))) (x .reads);
+    })

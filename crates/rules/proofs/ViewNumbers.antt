@@ -13,9 +13,9 @@ use Rattle.rules.specs.Reader.{OpeningAt, discardAt, discardAllAt, fullA
 use Rattle.rules.specs.Meaning.{saidAuthority, saidOpening, components, meaning, readReference, readAbsolute}
 use Rattle.rules.specs.Encode.{authorityItem}
 use Rattle.rules.specs.Resolve.{openingAuthority, asBase}
-use Rattle.rules.specs.Views.{segmentView, Piece, authorityView, authoritySpan, segmentShown, pieceShown, numberOf}
+use Rattle.rules.specs.Views.{segmentView, Piece, authorityView, authoritySpan, segmentShown, pieceShown, verdict}
 use Rattle.rules.specs.Laid.{OpeningLaid}
-use Rattle.rules.specs.Promises.{Shows}
+use Rattle.rules.specs.Promises.{Shows, base-own, base-relative}
 use Rattle.rules.specs.Promises.{SegmentAnswers, segment-own, segment-18, segment-done}
 use Rattle.rules.specs.Promises.{AuthorityAnswers, authority-8, authority-own, authority-of-reference, authority-of-base}
 use Rattle.rules.proofs.Steps.{none-some, ok-at}
@@ -23,6 +23,7 @@ use Rattle.rules.proofs.Reading.{meaning-said}
 use Rattle.rules.proofs.Absolutes.{absolute-is}
 use Rattle.rules.proofs.Laid.{laid}
 use Rattle.rules.proofs.RefusalNumbers.{numbers}
+use Rattle.rules.proofs.CallNumbers.{base-refused}
 
 -- ---- the n-th segment
 
@@ -43,32 +44,32 @@ nth-said bs f n =
     ap (λ (xs : List Bytes). getElem? xs n) (elements-map (taken bs) (components bs f .path))
     ∙ nth-map (taken bs) (elements (components bs f .path)) n
 
--- its number, by that reference
-given-map : {A B : Type 0} (f : A → B) (o : Option A) (n k : ℕ) → numberOf (given o n k) ≡ numberOf (given (Option·map f o) n k)
+-- its verdict, by that reference
+given-map : {A B : Type 0} (f : A → B) (o : Option A) (n k : ℕ) → verdict (given o n k) ≡ verdict (given (Option·map f o) n k)
 unfolding given
 given-map f none n k = refl
 given-map f (some a) n k = refl
 
-segment-number : (lim : Limits) (bs : Bytes) (n : ℕ)
-    → numberOf (segmentView lim bs n) ≡ numberOf (readReference lim bs >>= λ r. given (getElem? (elements (r .path)) n) NONE 0)
+segment-verdict : (lim : Limits) (bs : Bytes) (n : ℕ)
+    → verdict (segmentView lim bs n) ≡ verdict (readReference lim bs >>= λ r. given (getElem? (elements (r .path)) n) NONE 0)
 unfolding segmentView readReference _>>=_
-segment-number lim bs n = go (read lim bs) refl
+segment-verdict lim bs n = go (read lim bs) refl
   where
     go : (x : Res Found) → read lim bs ≡ x
-        → numberOf (segmentView lim bs n) ≡ numberOf (readReference lim bs >>= λ r. given (getElem? (elements (r .path)) n) NONE 0)
+        → verdict (segmentView lim bs n) ≡ verdict (readReference lim bs >>= λ r. given (getElem? (elements (r .path)) n) NONE 0)
     go (refused m k) e = rw e
     go (ok f) e =
         rw e
         (given-map (taken bs) (getElem? (elements (components bs f .path)) n) NONE 0
-        ∙ ap (λ (o : Option Bytes). numberOf (given o NONE 0)) (sym (nth-said bs f n)))
+        ∙ ap (λ (o : Option Bytes). verdict (given o NONE 0)) (sym (nth-said bs f n)))
 
 pub segment-answers : (lim : Limits) (bs : Bytes) (n : ℕ)
-    → Shows (SegmentAnswers lim bs n) (numberOf (segmentView lim bs n)) (segmentShown (segmentView lim bs n))
+    → Shows (SegmentAnswers lim bs n) (verdict (segmentView lim bs n)) (segmentShown (segmentView lim bs n))
 unfolding segmentView readReference given _>>=_
 segment-answers lim bs n = record { told = go (read lim bs) refl; only = only }
   where
     Answer : Type 0
-    Answer = SegmentAnswers lim bs n (numberOf (segmentView lim bs n)) (segmentShown (segmentView lim bs n))
+    Answer = SegmentAnswers lim bs n (verdict (segmentView lim bs n)) (segmentShown (segmentView lim bs n))
 
     go : (x : Res Found) → read lim bs ≡ x → Answer
     go (refused m k) e = rw e (segment-own {k = k} (numbers lim bs m k e) (rw e))
@@ -78,10 +79,10 @@ segment-answers lim bs n = record { told = go (read lim bs) refl; only = only }
         found none g = rw (e, g) (segment-18 {r = meaning bs f} (rw e) (nth-said bs f n ∙ rw g))
         found (some s) g = rw (e, g) (segment-done {r = meaning bs f} {s = s} (rw e) (nth-said bs f n ∙ rw g))
 
-    only : (m : ℕ) (s : Span) → SegmentAnswers lim bs n m s → numberOf (segmentView lim bs n) ≡ m
-    only _ _ (segment-own h e) = segment-number lim bs n ∙ rw e
-    only _ _ (segment-18 e g) = segment-number lim bs n ∙ rw (e, g)
-    only _ _ (segment-done e g) = segment-number lim bs n ∙ rw (e, g)
+    only : (v : Res (Unit {0})) (s : Span) → SegmentAnswers lim bs n v s → verdict (segmentView lim bs n) ≡ v
+    only _ _ (segment-own h e) = segment-verdict lim bs n ∙ rw e
+    only _ _ (segment-18 e g) = segment-verdict lim bs n ∙ rw (e, g)
+    only _ _ (segment-done e g) = segment-verdict lim bs n ∙ rw (e, g)
 
 -- ---- the authority
 
@@ -113,40 +114,40 @@ brings-none bs (fullAt c a) e = none-some _ (sym e)
 opening-means : (bs : Bytes) (f : Found) → meaning bs f .opening ≡ saidOpening bs (f .opening)
 opening-means bs f = ap (λ (r : Reference). r .opening) (meaning-said bs (f .opening) (f .path) (f .query) (f .fragment))
 
-authority-number : (lim : Limits) (base ref : Bytes)
-    → numberOf (authorityView lim base ref) ≡ numberOf (asBase (readAbsolute lim base) >>= λ b. readReference lim ref)
+authority-verdict : (lim : Limits) (base ref : Bytes)
+    → verdict (authorityView lim base ref) ≡ verdict (asBase (readAbsolute lim base) >>= λ b. readReference lim ref)
 unfolding authorityView readAbsolute readReference given _>>=_ _>>_
-authority-number lim base ref = go (read lim base) refl
+authority-verdict lim base ref = go (read lim base) refl
   where
-    Number : Type 0
-    Number = numberOf (authorityView lim base ref) ≡ numberOf (asBase (readAbsolute lim base) >>= λ b. readReference lim ref)
+    Same : Type 0
+    Same = verdict (authorityView lim base ref) ≡ verdict (asBase (readAbsolute lim base) >>= λ b. readReference lim ref)
 
-    go : (x : Res Found) → read lim base ≡ x → Number
+    go : (x : Res Found) → read lim base ≡ x → Same
     go (refused n k) e = rw e
     go (ok b) e = opened (absolute (meaning base b)) refl
       where
-        opened : (o : Option Cri) → absolute (meaning base b) ≡ o → Number
+        opened : (o : Option Cri) → absolute (meaning base b) ≡ o → Same
         opened none a = rw (e, a)
         opened (some c) a = reads (read lim ref) refl
           where
-            reads : (x : Res Found) → read lim ref ≡ x → Number
+            reads : (x : Res Found) → read lim ref ≡ x → Same
             reads (refused m k) d = rw (e, a, d)
             reads (ok r) d = rw (e, a, d)
 
 pub authority-answers : (lim : Limits) (base ref : Bytes) → Octets base → Octets ref
-    → Shows (AuthorityAnswers lim base ref) (numberOf (authorityView lim base ref)) (pieceShown (authorityView lim base ref))
+    → Shows (AuthorityAnswers lim base ref) (verdict (authorityView lim base ref)) (pieceShown (authorityView lim base ref))
 unfolding authorityView readAbsolute readReference given _>>=_ _>>_
 authority-answers lim base ref hb hr = record { told = go (read lim base) refl; only = only }
   where
     Answer : Type 0
-    Answer = AuthorityAnswers lim base ref (numberOf (authorityView lim base ref)) (pieceShown (authorityView lim base ref))
+    Answer = AuthorityAnswers lim base ref (verdict (authorityView lim base ref)) (pieceShown (authorityView lim base ref))
 
     go : (x : Res Found) → read lim base ≡ x → Answer
-    go (refused n k) e = rw e (authority-8 {n = n} {k = k} (rw e))
+    go (refused n k) e = rw e (authority-8 (base-own {k = k} (numbers lim base n k e) (rw e)))
     go (ok b) e = opened (absolute (meaning base b)) refl
       where
         opened : (o : Option Cri) → absolute (meaning base b) ≡ o → Answer
-        opened none a = rw (e, a) (authority-8 {n = 8} {k = 0} (rw (e, a)))
+        opened none a = rw (e, a) (authority-8 (base-relative {r = meaning base b} (rw e) a))
         opened (some c) a = reads (read lim ref) refl
           where
             reads : (x : Res Found) → read lim ref ≡ x → Answer
@@ -173,8 +174,8 @@ authority-answers lim base ref hb hr = record { told = go (read lim base) refl; 
                         (ap openingAuthority (opening-means ref r) ∙ brings-none ref (r .opening) g) (i .item ∙ ap authorityItem same))
                     other none h = none-some (c .authority) (sym (brings-none base (b .opening) h) ∙ based)
 
-    only : (m : ℕ) (p : Piece) → AuthorityAnswers lim base ref m p → numberOf (authorityView lim base ref) ≡ m
-    only _ _ (authority-8 e) = authority-number lim base ref ∙ rw e
-    only _ _ (authority-own e h d) = authority-number lim base ref ∙ rw (e, d)
-    only _ _ (authority-of-reference e d g i) = authority-number lim base ref ∙ rw (e, d)
-    only _ _ (authority-of-base e d g i) = authority-number lim base ref ∙ rw (e, d)
+    only : (v : Res (Unit {0})) (p : Piece) → AuthorityAnswers lim base ref v p → verdict (authorityView lim base ref) ≡ v
+    only _ _ (authority-8 {k = k} e) = authority-verdict lim base ref ∙ rw (base-refused lim base k e)
+    only _ _ (authority-own e h d) = authority-verdict lim base ref ∙ rw (e, d)
+    only _ _ (authority-of-reference e d g i) = authority-verdict lim base ref ∙ rw (e, d)
+    only _ _ (authority-of-base e d g i) = authority-verdict lim base ref ∙ rw (e, d)

@@ -1,76 +1,86 @@
--- RULES 3: what each public call that writes into a room answers: its number, its length, and every byte of the room.
+-- RULES 3: what each public call answers: a refusal with its number and place, or what it gives; and every byte of the room that it writes into.
 use Prim.Native.Nat.{ℕ}
 use mathlib.Core.Bool.{Bool, true, false, cond, _||_}
 use mathlib.Core.List.{_++_}
 use mathlib.Core.Option.{Option, none, some}
 use lib.ListN.{length, drop}
 use lib.Dec.{ltb, eqb}
-use Rattle.rules.specs.Bytes.{Bytes}
-use Rattle.rules.specs.Result.{Res, refused, ok, need, given, _>>=_, _>>_, ROOM, COAP, DEST}
-use Rattle.rules.specs.Model.{Limits, Components}
-use Rattle.rules.specs.Meaning.{readAbsolute}
-use Rattle.rules.specs.Resolve.{resolved}
+use Rattle.rules.specs.Bytes.{Bytes, all}
+use Rattle.rules.specs.Result.{Res, refused, ok, need, given, _>>=_, _>>_, LIMIT, RESULT, ROOM, COAP, DEST}
+use Rattle.rules.specs.Model.{Limits, Components, mapParts, reference}
+use Rattle.rules.specs.Reader.{taken, read}
+use Rattle.rules.specs.Meaning.{components, readReference, readAbsolute}
+use Rattle.rules.specs.Encode.{encode}
+use Rattle.rules.specs.Resolve.{asBase, resolve, fits}
 use Rattle.rules.specs.Text.{uriText}
 use Rattle.rules.specs.Options.{options, optionsFrom, coapScheme}
-use Rattle.rules.specs.Writing.{written}
+use Rattle.rules.specs.Writing.{allTexts, counted, inside, placeless}
 
--- what the rules say of an input: a refusal's number, or the bytes to be written
-pub data Ruling : Type 0 where
-  refuse : ℕ → Ruling
-  write : Bytes → Ruling
+-- ---- 3.1: an answer in numbers
 
--- of the definitions that also tell a place
-abbrev pub ruling : Res Bytes → Ruling
-ruling (refused n k) = refuse n
-ruling (ok w) = write w
+-- a done call has the number 0
+abbrev pub numberOf : {A : Type 0} → Res A → ℕ
+numberOf (refused n k) = n
+numberOf (ok a) = 0
 
--- what a call answers beside the room
-pub record Done : Type 0 where
-  pub number : ℕ
-  pub length : ℕ
+-- and the place 0
+abbrev pub placeOf : {A : Type 0} → Res A → ℕ
+placeOf (refused n k) = k
+placeOf (ok a) = 0
 
--- 3.1, 3.7: for a room of n bytes, the answer: a refusal's number and length 0, or 0 and the length written
-unfoldable pub outcome : Ruling → ℕ → Done
-outcome (refuse k) n = record { number = k; length = 0 }
-outcome (write w) n = cond (ltb n (length w)) (record { number = ROOM; length = 0 }) (record { number = 0; length = length w })
+-- a refused call has the length 0
+abbrev pub lengthOf : Res ℕ → ℕ
+lengthOf (refused n k) = 0
+lengthOf (ok m) = m
+
+-- ---- a call whose output is to be written into a room
+
+-- 3.1, 3.7: the answer for a room of n bytes: a refusal, or the length written
+unfoldable pub outcome : Res Bytes → ℕ → Res ℕ
+outcome (refused m k) n = refused m k
+outcome (ok w) n = cond (ltb n (length w)) (refused ROOM 0) (ok (length w))
 
 -- 3.1: the room after the call: untouched by a refusal, and past the length written
-unfoldable pub after : Ruling → Bytes → Bytes
-after (refuse k) room = room
-after (write w) room = cond (ltb (length room) (length w)) room (w ++ drop (length w) room)
+unfoldable pub after : Res Bytes → Bytes → Bytes
+after (refused m k) room = room
+after (ok w) room = cond (ltb (length room) (length w)) room (w ++ drop (length w) room)
 
--- ---- the calls
+-- ---- the calls, and the output of those that write: 3.8 has the places; 10 comes last, in `outcome`
 
--- 3.3: what `resolved` says, then 10
-unfoldable pub resolveCall : Limits → Bytes → Bytes → Ruling
-resolveCall lim base ref = ruling (resolved lim base ref)
+-- 9.5: 1 to 7, or the components
+unfoldable pub readCall : Limits → Bytes → Res Components
+readCall lim bs = read lim bs >>= λ f. ok (components bs f)
 
--- 3.4: 1 to 7, 8 if not absolute
-unfoldable pub printed : Limits → Bytes → Res Bytes
-printed lim bs = readAbsolute lim bs >>= λ c. ok (uriText c)
+-- 3.3: 8 for the base, then the reference's 1 to 7, then 9
+unfoldable pub resolveCall : Limits → Bytes → Bytes → Res Bytes
+resolveCall lim base ref = do
+  b ← asBase (readAbsolute lim base)
+  r ← readReference lim ref
+  need (fits lim (resolve b r)) RESULT 0
+  ok (encode (reference (resolve b r)))
 
--- 3.4: the same, then 10
-unfoldable pub textCall : Limits → Bytes → Ruling
-textCall lim bs = ruling (printed lim bs)
+-- 3.4: 1 to 7, then 8 if not absolute
+unfoldable pub textCall : Limits → Bytes → Res Bytes
+textCall lim bs = readAbsolute lim bs >>= λ c. ok (uriText c)
 
 -- it is not set
 abbrev pub absent : {A : Type 0} → Option A → Bool
 absent none = true
 absent (some a) = false
 
--- 3.5: 12, 1 to 7, 8 if not absolute, 11
-unfoldable pub requested : Limits → Bytes → Bytes → ℕ → Res Bytes
-requested lim bs toAddress toPort = do
+-- 3.5: 12, then 1 to 7, then 8 if not absolute, then 11
+unfoldable pub optionsCall : Limits → Bytes → Bytes → ℕ → Res Bytes
+optionsCall lim bs toAddress toPort = do
   need (eqb (length toAddress) 4 || eqb (length toAddress) 16) DEST 0
   c ← readAbsolute lim bs
   s ← given (coapScheme (c .scheme)) COAP 0
   need (absent (c .fragment)) COAP 0
   ok (optionsFrom 0 (options c s toAddress toPort))
 
--- 3.5: the same, then 10
-unfoldable pub optionsCall : Limits → Bytes → Bytes → ℕ → Ruling
-optionsCall lim bs toAddress toPort = ruling (requested lim bs toAddress toPort)
-
--- RULES 9: 4, then the reader's number for the encoding, then 10
-unfoldable pub writeCall : Limits → Components → Bytes → Ruling
-writeCall lim c lent = ruling (written lim c lent)
+-- 9.2: 4; 9.3: then the number that the reader has for the encoding
+unfoldable pub writeCall : Limits → Components → Bytes → Res Bytes
+writeCall lim c lent = do
+  need (counted lim c) LIMIT 0
+  need (all (inside lent) (allTexts c)) LIMIT 0
+  placeless (read lim (encode (mapParts (taken lent) c)))
+  ok (encode (mapParts (taken lent) c))

@@ -6,40 +6,37 @@ use mathlib.Core.List.{List, [], _∷_, _++_, map}
 use mathlib.Core.Option.{Option, none, some}
 use lib.ListN.{replicate}
 use Rattle.rules.specs.Bytes.{Bytes, ascii, hex, concat}
-use Rattle.rules.specs.Result.{Res, refused, ok}
+use Rattle.rules.specs.Result.{Res, refused, ok, _>>=_}
 use Rattle.rules.specs.Model.{Span, limits}
 use Rattle.rules.specs.Reader.{Found, read}
 use Rattle.rules.specs.Meaning.{span}
 use Rattle.rules.specs.Text.{Class, Label, Segment, Parameter, Fragment, escape}
 use Rattle.rules.specs.Address.{ipv6Text}
 use Rattle.rules.specs.Options.{CoapOption, option, readOptions}
-use Rattle.rules.specs.Calls.{Ruling, refuse, write, resolveCall, textCall, optionsCall}
-use Rattle.rules.specs.Views.{segmentView, Piece, ofReference, ofBase, authorityView, segmentShown, pieceShown, numberOf}
+use Rattle.rules.specs.Calls.{resolveCall, textCall, optionsCall}
+use Rattle.rules.specs.Views.{segmentView, Piece, ofReference, ofBase, authorityView, segmentShown, pieceShown, verdict}
 
 -- ---- rows
 
--- a reference, and what it gives against a base: the call's ruling, and the ruling on the URI text of what it wrote
+-- a reference, and what it gives against a base: the call's answer, and the URI text of what it wrote
 pub record Row : Type 0 where
   pub input : Bytes
-  pub result : Ruling
-  pub text : Ruling
+  pub result : Res Bytes
+  pub text : Res Bytes
 
--- a row that is refused with n
-abbrev pub refuses : String → ℕ → Row
-refuses s n = record { input = hex s; result = refuse n; text = refuse n }
+-- a row that is refused with n at k
+abbrev pub refuses : String → ℕ → ℕ → Row
+refuses s n k = record { input = hex s; result = refused n k; text = refused n k }
 
 -- a row that gives the bytes w, whose URI text is t
 abbrev pub gives : String → Bytes → String → Row
-gives s w t = record { input = hex s; result = write w; text = write (ascii t) }
-
--- the URI text of what was written
-abbrev pub textOf : Ruling → Ruling
-textOf (refuse n) = refuse n
-textOf (write w) = textCall limits w
+gives s w t = record { input = hex s; result = ok w; text = ok (ascii t) }
 
 -- what the calls answer for a row's reference
 abbrev pub answered : Bytes → Row → Row
-answered base r = record { input = r .input; result = resolveCall limits base (r .input); text = textOf (resolveCall limits base (r .input)) }
+answered base r =
+    let w : Res Bytes = resolveCall limits base (r .input) in
+    record { input = r .input; result = w; text = w >>= textCall limits }
 
 -- every row is what the calls answer
 abbrev pub AllHold : Bytes → List Row → Type 0
@@ -66,30 +63,30 @@ B = hex "83" ++ origin ++ hex "82" ++ known ++ core
 -- the rows marked *
 unfoldable pub starred : List Row
 starred =
-    refuses "" 1
+    refuses "" 1 0
     ∷ gives "80" B "coap://198.51.100.1:61616/.well-known/core"
-    ∷ refuses "81 00" 2
+    ∷ refuses "81 00" 2 1
     ∷ gives "82 00 80" B "coap://198.51.100.1:61616/.well-known/core"
     ∷ gives "82 00 81 61 61" (hex "83" ++ origin ++ hex "83" ++ known ++ core ++ hex "61 61") "coap://198.51.100.1:61616/.well-known/core/a"
     ∷ gives "82 01 81 61 61" (hex "83" ++ origin ++ hex "82" ++ known ++ hex "61 61") "coap://198.51.100.1:61616/.well-known/a"
     ∷ gives "81 18 7F" (hex "82" ++ origin) "coap://198.51.100.1:61616/"
-    ∷ refuses "81 18 80" 4
-    ∷ refuses "81 18 17" 3
+    ∷ refuses "81 18 80" 4 1
+    ∷ refuses "81 18 17" 3 1
     ∷ gives "82 02 81 60" (hex "82" ++ origin) "coap://198.51.100.1:61616/"
     ∷ gives "83 00 F6 81 60" (hex "84" ++ origin ++ hex "82" ++ known ++ core ++ hex "81 60") "coap://198.51.100.1:61616/.well-known/core?"
-    ∷ refuses "82 F5 81 62 2E 2E" 6
+    ∷ refuses "82 F5 81 62 2E 2E" 6 3
     ∷ []
 
 -- the other rows
 unfoldable pub unstarred : List Row
 unstarred =
-    refuses "82 00 81 61 C3" 5
+    refuses "82 00 81 61 C3" 5 3
     ∷ gives "82 01 81 60" (hex "83" ++ origin ++ hex "82" ++ known ++ hex "60") "coap://198.51.100.1:61616/.well-known/"
-    ∷ refuses "82 20 84 61 31 61 32 61 33 61 34" 6
-    ∷ refuses "82 20 81 61 41" 6
-    ∷ refuses "82 64 63 6F 61 70 81 61 61" 6
-    ∷ refuses "82 00 F6" 2
-    ∷ refuses "80 00" 7
+    ∷ refuses "82 20 84 61 31 61 32 61 33 61 34" 6 2
+    ∷ refuses "82 20 81 61 41" 6 3
+    ∷ refuses "82 64 63 6F 61 70 81 61 61" 6 1
+    ∷ refuses "82 00 F6" 2 2
+    ∷ refuses "80 00" 7 1
     ∷ []
 
 -- ---- 11.4: two slips, against a base with the path "p", the query "q" and the fragment "f"
@@ -284,20 +281,20 @@ sizes =
 
 -- ---- 11.8: texts
 
--- an input, and the ruling on its URI text
+-- an input, and what the URI text call gives
 pub record Text : Type 0 where
   pub input : Bytes
-  pub result : Ruling
+  pub result : Res Bytes
 
 -- the input prints as this text
 abbrev pub prints : String → String → Text
-prints s t = record { input = hex s; result = write (ascii t) }
+prints s t = record { input = hex s; result = ok (ascii t) }
 
 -- what the call answers
 abbrev pub answeredText : Text → Text
 answeredText t = record { input = t .input; result = textCall limits (t .input) }
 
--- the name of each scheme; four labels that are no IPv4 address; every part; addresses; two that are not absolute
+-- the name of each scheme; four labels that are no IPv4 address; every part; addresses; two that are not absolute; one that is refused
 unfoldable pub texts : List Text
 texts =
     prints "82 20 81 61 68" "coap://h/"
@@ -311,8 +308,9 @@ texts =
     ∷ prints "85 62 61 2B 82 61 68 00 82 61 70 61 73 82 61 71 60 61 66" "a+://h:0/p/s?q&#f"
     ∷ prints "82 20 81 44 00 0A 64 FF" "coap://0.10.100.255/"
     ∷ prints "82 20 82 50 20 01 0D B8 00 00 00 00 00 01 00 00 00 00 00 01 18 50" "coap://[2001:db8::1:0:0:1]:80/"
-    ∷ record { input = hex "80"; result = refuse 8 }
-    ∷ record { input = hex "82 F6 81 61 61"; result = refuse 8 }
+    ∷ record { input = hex "80"; result = refused 8 0 }
+    ∷ record { input = hex "82 F6 81 61 61"; result = refused 8 0 }
+    ∷ record { input = hex "81 00"; result = refused 2 1 }
     ∷ []
 
 -- ---- 11.9: escapes
@@ -364,11 +362,15 @@ pub record Request : Type 0 where
   pub input : Bytes
   pub address : Bytes
   pub port : ℕ
-  pub result : Ruling
+  pub result : Res Bytes
 
 -- to 198.51.100.1
 abbrev pub request : Bytes → ℕ → Bytes → Request
-request bs port w = record { input = bs; address = hex "C6 33 64 01"; port = port; result = write w }
+request bs port w = record { input = bs; address = hex "C6 33 64 01"; port = port; result = ok w }
+
+-- to that address and port 5683, refused with n at k
+abbrev pub unrequested : String → ℕ → ℕ → Request
+unrequested s n k = record { input = hex s; address = hex "C6 33 64 01"; port = 5683; result = refused n k }
 
 -- what the call answers
 abbrev pub answeredRequest : Request → Request
@@ -402,6 +404,12 @@ requests =
     ∷ request (hex "82 28 81 44 C6 33 64 01") 81 (hex "71 50")
     ∷ request (hex "82 29 81 44 C6 33 64 01") 443 []
     ∷ request (hex "82 29 81 44 C6 33 64 01") 444 (hex "72 01 BB")
+    -- refusals: the address, before the input; the input; not absolute; a scheme that is a text; a fragment
+    ∷ record { input = hex "81 00"; address = hex "C6 33 64"; port = 5683; result = refused 12 0 }
+    ∷ unrequested "81 00" 2 1
+    ∷ unrequested "80" 8 0
+    ∷ unrequested "82 61 61 81 61 68" 11 0
+    ∷ unrequested "85 20 81 61 68 F6 F6 61 66" 11 0
     ∷ []
 
 -- ---- 11.3: IPv6 texts
@@ -477,52 +485,87 @@ codings =
 
 -- ---- 11.10: views
 
--- an input and a number, and the number and the part that the view of that segment gives
+-- an input and a number, and the verdict and the part that the view of that segment gives
 pub record SegmentRow : Type 0 where
   pub input : Bytes
   pub nth : ℕ
-  pub number : ℕ
+  pub told : Res (Unit {0})
   pub part : Span
 
 -- the n-th segment of the input
-abbrev pub segmentOf : String → ℕ → ℕ → Span → SegmentRow
-segmentOf s n m p = record { input = hex s; nth = n; number = m; part = p }
+abbrev pub segmentOf : String → ℕ → Res (Unit {0}) → Span → SegmentRow
+segmentOf s n v p = record { input = hex s; nth = n; told = v; part = p }
 
 -- what the view gives
 abbrev pub answeredSegment : SegmentRow → SegmentRow
 answeredSegment r =
     let v : Res Span = segmentView limits (r .input) (r .nth) in
-    record { input = r .input; nth = r .nth; number = numberOf v; part = segmentShown v }
+    record { input = r .input; nth = r .nth; told = verdict v; part = segmentShown v }
 
 -- an empty segment and one after it; none; a refused input
 unfoldable pub segmentRows : List SegmentRow
 segmentRows =
-    segmentOf "82 00 82 60 61 61" 0 0 (span 4 0)
-    ∷ segmentOf "82 00 82 60 61 61" 1 0 (span 5 1)
-    ∷ segmentOf "82 00 82 60 61 61" 2 18 (span 0 0)
-    ∷ segmentOf "81 00" 0 2 (span 0 0)
+    segmentOf "82 00 82 60 61 61" 0 (ok tt) (span 4 0)
+    ∷ segmentOf "82 00 82 60 61 61" 1 (ok tt) (span 5 1)
+    ∷ segmentOf "82 00 82 60 61 61" 2 (refused 18 0) (span 0 0)
+    ∷ segmentOf "81 00" 0 (refused 2 1) (span 0 0)
     ∷ []
 
--- a reference, and the number and the part that the view of the authority gives against B
+-- a base and a reference, and the verdict and the part that the view of the authority gives
 pub record AuthorityRow : Type 0 where
+  pub base : Bytes
   pub input : Bytes
-  pub number : ℕ
+  pub told : Res (Unit {0})
   pub part : Piece
 
--- of this reference
-abbrev pub authorityOf : String → ℕ → Piece → AuthorityRow
-authorityOf s m p = record { input = hex s; number = m; part = p }
+-- of this reference against B
+abbrev pub authorityOf : String → Res (Unit {0}) → Piece → AuthorityRow
+authorityOf s v p = record { base = B; input = hex s; told = v; part = p }
+
+-- against a base that is refused, or not absolute: 8 at k, before the reference's own refusal
+abbrev pub noAuthority : Bytes → ℕ → AuthorityRow
+noAuthority base k = record { base = base; input = hex "81 00"; told = refused 8 k; part = ofReference (span 0 0) }
 
 -- what the view gives
 abbrev pub answeredAuthority : AuthorityRow → AuthorityRow
 answeredAuthority r =
-    let v : Res Piece = authorityView limits B (r .input) in
-    record { input = r .input; number = numberOf v; part = pieceShown v }
+    let v : Res Piece = authorityView limits (r .base) (r .input) in
+    record { base = r .base; input = r .input; told = verdict v; part = pieceShown v }
 
--- the base's; the reference's own; a refused reference
+-- the base's; the reference's own; a refused reference; a refused base, and one that is not absolute
 unfoldable pub authorityRows : List AuthorityRow
 authorityRows =
-    authorityOf "80" 0 (ofBase (span 2 9))
-    ∷ authorityOf "82 F6 81 61 61" 0 (ofReference (span 2 3))
-    ∷ authorityOf "81 00" 2 (ofReference (span 0 0))
+    authorityOf "80" (ok tt) (ofBase (span 2 9))
+    ∷ authorityOf "82 F6 81 61 61" (ok tt) (ofReference (span 2 3))
+    ∷ authorityOf "81 00" (refused 2 1) (ofReference (span 0 0))
+    ∷ noAuthority (hex "82 20 81 61 41") 3
+    ∷ noAuthority (hex "80") 0
+    ∷ []
+
+-- ---- 11.11: bases that are refused, with their places
+
+-- a base, and what resolving gives against it for a reference that is itself refused
+pub record Based : Type 0 where
+  pub base : Bytes
+  pub result : Res Bytes
+
+-- 8 at k
+abbrev pub refusedBase : Bytes → ℕ → Based
+refusedBase base k = record { base = base; result = refused 8 k }
+
+-- what the call answers
+abbrev pub answeredBase : Based → Based
+answeredBase b = record { base = b .base; result = resolveCall limits (b .base) (hex "81 00") }
+
+-- cut at its length; a discard; a label; the rules over all labels; bytes after the array; not absolute, without and with an authority
+unfoldable pub bases : List Based
+bases =
+    refusedBase [] 0
+    ∷ refusedBase (hex "82 20") 2
+    ∷ refusedBase (hex "81 18 80") 1
+    ∷ refusedBase (hex "82 20 81 61 41") 3
+    ∷ refusedBase (hex "82 20 84 61 31 61 32 61 33 61 34") 2
+    ∷ refusedBase (hex "82 20 81 61 61 00") 5
+    ∷ refusedBase (hex "80") 0
+    ∷ refusedBase (hex "82 F6 81 61 61") 0
     ∷ []

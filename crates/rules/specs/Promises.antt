@@ -7,7 +7,7 @@ use mathlib.Core.Logic.{_↔_, _⊎_}
 use mathlib.Core.Option.{none, some}
 use lib.ListN.{length, take, drop, getElem?}
 use Rattle.rules.specs.Bytes.{Bytes, Octets, all, hex}
-use Rattle.rules.specs.Result.{refused, ok, CUT, TAIL, RESULT}
+use Rattle.rules.specs.Result.{Res, refused, ok, CUT, TAIL, RESULT}
 use Rattle.rules.specs.Model.{Authority, discard, full, Span, Reference, absolute, Components, mapParts, Limits, elements, Cri, reference, normalPath, normal, Same}
 use Rattle.rules.specs.Reader.{taken, Found, read}
 use Rattle.rules.specs.Meaning.{span, components, readReference, readAbsolute}
@@ -17,10 +17,10 @@ use Rattle.rules.specs.Resolve.{openingAuthority, resolve, fits}
 use Rattle.rules.specs.Rules.{SchemeEntry}
 use Rattle.rules.specs.Text.{uriText}
 use Rattle.rules.specs.Options.{CoapOption, options, optionsFrom, coapScheme, readOptions, Codable}
-use Rattle.rules.specs.Writing.{allTexts, Sized, counted, inside, Reading, readCall}
-use Rattle.rules.specs.Calls.{Ruling, refuse, write, Done, outcome, after, resolveCall, textCall, optionsCall, writeCall}
-use Rattle.rules.specs.Views.{segmentView, Piece, ofReference, ofBase, authorityView, segmentShown, pieceShown, numberOf}
-use Rattle.rules.specs.Cases.{AllHold, B, starred, unstarred, longBase, slips, steps, refusals, accepted, sizes, answeredRefusal, texts, answeredText, escaped, answeredEscape, requests, answeredRequest, codings, answeredCoding, addresses, ipv6Printed, segmentRows, answeredSegment, authorityRows, answeredAuthority}
+use Rattle.rules.specs.Writing.{allTexts, Sized, counted, inside}
+use Rattle.rules.specs.Calls.{lengthOf, outcome, after, readCall, resolveCall, textCall, optionsCall, writeCall}
+use Rattle.rules.specs.Views.{segmentView, Piece, ofReference, ofBase, authorityView, segmentShown, pieceShown, verdict}
+use Rattle.rules.specs.Cases.{AllHold, B, starred, unstarred, longBase, slips, steps, refusals, accepted, sizes, answeredRefusal, texts, answeredText, escaped, answeredEscape, requests, answeredRequest, codings, answeredCoding, addresses, ipv6Printed, segmentRows, answeredSegment, authorityRows, answeredAuthority, bases, answeredBase}
 
 -- ---- the reader accepts exactly the encodings of valid references, and gives them back
 
@@ -60,23 +60,23 @@ Tail =
 
 -- RULES 3.1: after a refusal the length is 0 and every byte of the room is as it was; the length told lies inside the room, and past it the
 -- room is as it was; its length stays
-pub record Untouched (u : Ruling) (room : Bytes) : Type 0 where
-  pub refused : (outcome u (length room) .number ≡ 0 → ⊥) → (outcome u (length room) .length ≡ 0) × (after u room ≡ room)
-  pub within : outcome u (length room) .length ≤ length room
-  pub past : drop (outcome u (length room) .length) (after u room) ≡ drop (outcome u (length room) .length) room
+pub record Untouched (u : Res Bytes) (room : Bytes) : Type 0 where
+  pub kept : (n k : ℕ) → outcome u (length room) ≡ refused n k → (lengthOf (outcome u (length room)) ≡ 0) × (after u room ≡ room)
+  pub within : lengthOf (outcome u (length room)) ≤ length room
+  pub past : drop (lengthOf (outcome u (length room))) (after u room) ≡ drop (lengthOf (outcome u (length room))) room
   pub size : length (after u room) ≡ length room
 
--- RULES 3.7, of a room of n bytes: 10 exactly where the output is longer than the room
-pub record RoomNumbers (u : Ruling) (n : ℕ) : Type 0 where
-  pub own : (m : ℕ) → u ≡ refuse m → outcome u n ≡ record { number = m; length = 0 }
-  pub ten : (w : Bytes) → u ≡ write w → n < length w → outcome u n ≡ record { number = 10; length = 0 }
-  pub done : (w : Bytes) → u ≡ write w → length w ≤ n → outcome u n ≡ record { number = 0; length = length w }
+-- RULES 3.7, of a room of n bytes: 10 at 0 exactly where the output is longer than the room; a refusal keeps its number and its place
+pub record RoomNumbers (u : Res Bytes) (n : ℕ) : Type 0 where
+  pub own : (m k : ℕ) → u ≡ refused m k → outcome u n ≡ refused m k
+  pub ten : (w : Bytes) → u ≡ ok w → n < length w → outcome u n ≡ refused 10 0
+  pub done : (w : Bytes) → u ≡ ok w → length w ≤ n → outcome u n ≡ ok (length w)
 
 -- for every call that writes
 abbrev pub Rooms : Type 0
-Rooms = (u : Ruling) (room : Bytes) → Untouched u room × RoomNumbers u (length room)
+Rooms = (u : Res Bytes) (room : Bytes) → Untouched u room × RoomNumbers u (length room)
 
--- ---- demand 1: the numbers
+-- ---- demand 1: the numbers and the places
 
 -- Each family below has the cases of one call, in the order of its rule, and what the call answers in each.
 
@@ -84,78 +84,86 @@ Rooms = (u : Ruling) (room : Bytes) → Untouched u room × RoomNumbers u (lengt
 abbrev pub Own : ℕ → Type 0
 Own n = (1 ≤ n) × (n ≤ 7)
 
--- RULES 9.5: 1 to 7, and every component unset
-pub data ReadAnswers (lim : Limits) (bs : Bytes) : Reading → Type 0 where
-  read-own : {n k : ℕ} → Own n → read lim bs ≡ refused n k
-      → ReadAnswers lim bs (record { number = n; components = record { opening = full none none; path = none; query = none; fragment = none } })
-  read-done : {f : Found} → read lim bs ≡ ok f → ReadAnswers lim bs (record { number = 0; components = components bs f })
+-- RULES 9.5: 1 to 7 at the reader's place; or the components
+pub data ReadAnswers (lim : Limits) (bs : Bytes) : Res Components → Type 0 where
+  read-own : {n k : ℕ} → Own n → read lim bs ≡ refused n k → ReadAnswers lim bs (refused n k)
+  read-done : {f : Found} → read lim bs ≡ ok f → ReadAnswers lim bs (ok (components bs f))
 
--- RULES 3.3: 8 for the base, then the reference's 1 to 7, then 9
-pub data ResolveAnswers (lim : Limits) (base ref : Bytes) : Ruling → Type 0 where
-  resolve-8 : {n k : ℕ} → readAbsolute lim base ≡ refused n k → ResolveAnswers lim base ref (refuse 8)
-  resolve-own : {b : Cri} {n k : ℕ} → readAbsolute lim base ≡ ok b → Own n → readReference lim ref ≡ refused n k → ResolveAnswers lim base ref (refuse n)
+-- RULES 3.8: why a base is refused, and the place of the 8: the reader's inside the base, or 0 where it was read and is not absolute
+pub data BaseRefused (lim : Limits) (base : Bytes) : ℕ → Type 0 where
+  base-own : {n k : ℕ} → Own n → readReference lim base ≡ refused n k → BaseRefused lim base k
+  base-relative : {r : Reference} → readReference lim base ≡ ok r → absolute r ≡ none → BaseRefused lim base 0
+
+-- RULES 3.3: 8 for the base, then the reference's 1 to 7 at the reader's place, then 9
+pub data ResolveAnswers (lim : Limits) (base ref : Bytes) : Res Bytes → Type 0 where
+  resolve-8 : {k : ℕ} → BaseRefused lim base k → ResolveAnswers lim base ref (refused 8 k)
+  resolve-own : {b : Cri} {n k : ℕ} → readAbsolute lim base ≡ ok b → Own n → readReference lim ref ≡ refused n k
+      → ResolveAnswers lim base ref (refused n k)
   resolve-9 : {b : Cri} {r : Reference} → readAbsolute lim base ≡ ok b → readReference lim ref ≡ ok r → fits lim (resolve b r) ≡ false
-      → ResolveAnswers lim base ref (refuse 9)
+      → ResolveAnswers lim base ref (refused 9 0)
   resolve-done : {b : Cri} {r : Reference} → readAbsolute lim base ≡ ok b → readReference lim ref ≡ ok r → fits lim (resolve b r) ≡ true
-      → ResolveAnswers lim base ref (write (encode (reference (resolve b r))))
+      → ResolveAnswers lim base ref (ok (encode (reference (resolve b r))))
 
--- RULES 3.4: 1 to 7, then 8 if the reference is not absolute
-pub data TextAnswers (lim : Limits) (bs : Bytes) : Ruling → Type 0 where
-  text-own : {n k : ℕ} → Own n → readReference lim bs ≡ refused n k → TextAnswers lim bs (refuse n)
-  text-8 : {r : Reference} → readReference lim bs ≡ ok r → absolute r ≡ none → TextAnswers lim bs (refuse 8)
-  text-done : {r : Reference} {c : Cri} → readReference lim bs ≡ ok r → absolute r ≡ some c → TextAnswers lim bs (write (uriText c))
+-- RULES 3.4: 1 to 7 at the reader's place, then 8 if the reference is not absolute
+pub data TextAnswers (lim : Limits) (bs : Bytes) : Res Bytes → Type 0 where
+  text-own : {n k : ℕ} → Own n → readReference lim bs ≡ refused n k → TextAnswers lim bs (refused n k)
+  text-8 : {r : Reference} → readReference lim bs ≡ ok r → absolute r ≡ none → TextAnswers lim bs (refused 8 0)
+  text-done : {r : Reference} {c : Cri} → readReference lim bs ≡ ok r → absolute r ≡ some c → TextAnswers lim bs (ok (uriText c))
 
 -- an address has 4 or 16 bytes
 abbrev pub IsAddress : Bytes → Type 0
 IsAddress a = (length a ≡ 4) ⊎ (length a ≡ 16)
 
--- RULES 3.5: 12, then 1 to 7, then 8 if the reference is not absolute, then 11
-pub data OptionsAnswers (lim : Limits) (bs toAddress : Bytes) (toPort : ℕ) : Ruling → Type 0 where
-  options-12 : (IsAddress toAddress → ⊥) → OptionsAnswers lim bs toAddress toPort (refuse 12)
-  options-own : {n k : ℕ} → IsAddress toAddress → Own n → readReference lim bs ≡ refused n k → OptionsAnswers lim bs toAddress toPort (refuse n)
-  options-8 : {r : Reference} → IsAddress toAddress → readReference lim bs ≡ ok r → absolute r ≡ none → OptionsAnswers lim bs toAddress toPort (refuse 8)
+-- RULES 3.5: 12, then 1 to 7 at the reader's place, then 8 if the reference is not absolute, then 11
+pub data OptionsAnswers (lim : Limits) (bs toAddress : Bytes) (toPort : ℕ) : Res Bytes → Type 0 where
+  options-12 : (IsAddress toAddress → ⊥) → OptionsAnswers lim bs toAddress toPort (refused 12 0)
+  options-own : {n k : ℕ} → IsAddress toAddress → Own n → readReference lim bs ≡ refused n k → OptionsAnswers lim bs toAddress toPort (refused n k)
+  options-8 : {r : Reference} → IsAddress toAddress → readReference lim bs ≡ ok r → absolute r ≡ none
+      → OptionsAnswers lim bs toAddress toPort (refused 8 0)
   options-11-scheme : {c : Cri} → IsAddress toAddress → readAbsolute lim bs ≡ ok c → coapScheme (c .scheme) ≡ none
-      → OptionsAnswers lim bs toAddress toPort (refuse 11)
+      → OptionsAnswers lim bs toAddress toPort (refused 11 0)
   options-11-fragment : {c : Cri} {e : SchemeEntry} {t : Bytes} → IsAddress toAddress → readAbsolute lim bs ≡ ok c → coapScheme (c .scheme) ≡ some e
-      → c .fragment ≡ some t → OptionsAnswers lim bs toAddress toPort (refuse 11)
+      → c .fragment ≡ some t → OptionsAnswers lim bs toAddress toPort (refused 11 0)
   options-done : {c : Cri} {e : SchemeEntry} → IsAddress toAddress → readAbsolute lim bs ≡ ok c → coapScheme (c .scheme) ≡ some e → c .fragment ≡ none
-      → OptionsAnswers lim bs toAddress toPort (write (optionsFrom 0 (options c e toAddress toPort)))
+      → OptionsAnswers lim bs toAddress toPort (ok (optionsFrom 0 (options c e toAddress toPort)))
 
--- RULES 9.2, 9.3: 4, then the reader's 1 to 7 for the encoding
-pub data WriteAnswers (lim : Limits) (c : Components) (lent : Bytes) : Ruling → Type 0 where
-  write-4-count : counted lim c ≡ false → WriteAnswers lim c lent (refuse 4)
-  write-4-span : counted lim c ≡ true → all (inside lent) (allTexts c) ≡ false → WriteAnswers lim c lent (refuse 4)
+-- RULES 9.2, 9.3: 4, then the reader's 1 to 7 for the encoding, which is no input and so has no place
+pub data WriteAnswers (lim : Limits) (c : Components) (lent : Bytes) : Res Bytes → Type 0 where
+  write-4-count : counted lim c ≡ false → WriteAnswers lim c lent (refused 4 0)
+  write-4-span : counted lim c ≡ true → all (inside lent) (allTexts c) ≡ false → WriteAnswers lim c lent (refused 4 0)
   write-own : {n k : ℕ} → counted lim c ≡ true → all (inside lent) (allTexts c) ≡ true → Own n → read lim (encode (mapParts (taken lent) c)) ≡ refused n k
-      → WriteAnswers lim c lent (refuse n)
+      → WriteAnswers lim c lent (refused n 0)
   write-done : {f : Found} → counted lim c ≡ true → all (inside lent) (allTexts c) ≡ true → read lim (encode (mapParts (taken lent) c)) ≡ ok f
-      → WriteAnswers lim c lent (write (encode (mapParts (taken lent) c)))
+      → WriteAnswers lim c lent (ok (encode (mapParts (taken lent) c)))
 
--- RULES 10.1, 10.3: 1 to 7, then 18, with the empty part at the start; or the part that holds the n-th segment
-pub data SegmentAnswers (lim : Limits) (bs : Bytes) (n : ℕ) : ℕ → Span → Type 0 where
-  segment-own : {m k : ℕ} → Own m → readReference lim bs ≡ refused m k → SegmentAnswers lim bs n m (span 0 0)
-  segment-18 : {r : Reference} → readReference lim bs ≡ ok r → getElem? (elements (r .path)) n ≡ none → SegmentAnswers lim bs n 18 (span 0 0)
-  segment-done : {r : Reference} {s : Span} → readReference lim bs ≡ ok r → getElem? (elements (r .path)) n ≡ some (taken bs s) → SegmentAnswers lim bs n 0 s
+-- RULES 10.1, 10.3: 1 to 7 at the reader's place, then 18, with the empty part at the start; or the part that holds the n-th segment
+pub data SegmentAnswers (lim : Limits) (bs : Bytes) (n : ℕ) : Res (Unit {0}) → Span → Type 0 where
+  segment-own : {m k : ℕ} → Own m → readReference lim bs ≡ refused m k → SegmentAnswers lim bs n (refused m k) (span 0 0)
+  segment-18 : {r : Reference} → readReference lim bs ≡ ok r → getElem? (elements (r .path)) n ≡ none
+      → SegmentAnswers lim bs n (refused 18 0) (span 0 0)
+  segment-done : {r : Reference} {s : Span} → readReference lim bs ≡ ok r → getElem? (elements (r .path)) n ≡ some (taken bs s)
+      → SegmentAnswers lim bs n (ok tt) s
 
--- RULES 10.2, 10.3: 8 for the base, then the reference's 1 to 7, with the empty part at the start of the reference; or the part that holds
--- the whole item of the reference's own authority, else of the base's
-pub data AuthorityAnswers (lim : Limits) (base ref : Bytes) : ℕ → Piece → Type 0 where
-  authority-8 : {n k : ℕ} → readAbsolute lim base ≡ refused n k → AuthorityAnswers lim base ref 8 (ofReference (span 0 0))
+-- RULES 10.2, 10.3: 8 for the base, then the reference's 1 to 7 at the reader's place, with the empty part at the start of the reference; or
+-- the part that holds the whole item of the reference's own authority, else of the base's
+pub data AuthorityAnswers (lim : Limits) (base ref : Bytes) : Res (Unit {0}) → Piece → Type 0 where
+  authority-8 : {k : ℕ} → BaseRefused lim base k → AuthorityAnswers lim base ref (refused 8 k) (ofReference (span 0 0))
   authority-own : {b : Cri} {n k : ℕ} → readAbsolute lim base ≡ ok b → Own n → readReference lim ref ≡ refused n k
-      → AuthorityAnswers lim base ref n (ofReference (span 0 0))
+      → AuthorityAnswers lim base ref (refused n k) (ofReference (span 0 0))
   authority-of-reference : {b : Cri} {r : Reference} {a : Authority Bytes} {s : Span} → readAbsolute lim base ≡ ok b → readReference lim ref ≡ ok r
-      → openingAuthority (r .opening) ≡ some a → taken ref s ≡ authorityItem a → AuthorityAnswers lim base ref 0 (ofReference s)
+      → openingAuthority (r .opening) ≡ some a → taken ref s ≡ authorityItem a → AuthorityAnswers lim base ref (ok tt) (ofReference s)
   authority-of-base : {b : Cri} {r : Reference} {s : Span} → readAbsolute lim base ≡ ok b → readReference lim ref ≡ ok r
-      → openingAuthority (r .opening) ≡ none → taken base s ≡ authorityItem (b .authority) → AuthorityAnswers lim base ref 0 (ofBase s)
+      → openingAuthority (r .opening) ≡ none → taken base s ≡ authorityItem (b .authority) → AuthorityAnswers lim base ref (ok tt) (ofBase s)
 
 -- a call answers a: that is the answer of a case, and no case with another answer holds
 pub record Decides {A : Type 0} (Case : A → Type 0) (a : A) : Type 0 where
   pub told : Case a
   pub only : (x : A) → Case x → a ≡ x
 
--- of a view: the number is that of its case alone
-pub record Shows {A : Type 0} (Case : ℕ → A → Type 0) (n : ℕ) (a : A) : Type 0 where
-  pub told : Case n a
-  pub only : (m : ℕ) (x : A) → Case m x → n ≡ m
+-- of a view: the verdict is that of its case alone
+pub record Shows {A : Type 0} (Case : Res (Unit {0}) → A → Type 0) (v : Res (Unit {0})) (a : A) : Type 0 where
+  pub told : Case v a
+  pub only : (w : Res (Unit {0})) (x : A) → Case w x → v ≡ w
 
 -- for any limits and any inputs
 pub record CallNumbers : Type 0 where
@@ -166,46 +174,48 @@ pub record CallNumbers : Type 0 where
       → Decides (OptionsAnswers lim bs toAddress toPort) (optionsCall lim bs toAddress toPort)
   pub writing : (lim : Limits) (c : Components) (lent : Bytes) → Decides (WriteAnswers lim c lent) (writeCall lim c lent)
   pub segments : (lim : Limits) (bs : Bytes) (n : ℕ)
-      → Shows (SegmentAnswers lim bs n) (numberOf (segmentView lim bs n)) (segmentShown (segmentView lim bs n))
+      → Shows (SegmentAnswers lim bs n) (verdict (segmentView lim bs n)) (segmentShown (segmentView lim bs n))
   pub authorities : (lim : Limits) (base ref : Bytes) → Octets base → Octets ref
-      → Shows (AuthorityAnswers lim base ref) (numberOf (authorityView lim base ref)) (pieceShown (authorityView lim base ref))
+      → Shows (AuthorityAnswers lim base ref) (verdict (authorityView lim base ref)) (pieceShown (authorityView lim base ref))
 
 -- ---- demand 2: what was read is written again as it was, and what was written is read again as it was
 
--- a done call
-abbrev pub done : ℕ → Done
-done n = record { number = 0; length = n }
-
 -- the bytes that a call writes, up to the length it reports
-abbrev pub shown : Ruling → Bytes → Bytes
-shown u room = take (outcome u (length room) .length) (after u room)
+abbrev pub shown : Res Bytes → Bytes → Bytes
+shown u room = take (lengthOf (outcome u (length room))) (after u room)
 
 -- a call whose output is w: into every room that is long enough it writes w, whole
-pub record Writes (u : Ruling) (w : Bytes) : Type 0 where
-  pub ruled : u ≡ write w
-  pub told : (room : Bytes) → length w ≤ length room → outcome u (length room) ≡ done (length w)
+pub record Writes (u : Res Bytes) (w : Bytes) : Type 0 where
+  pub output : u ≡ ok w
+  pub told : (room : Bytes) → length w ≤ length room → outcome u (length room) ≡ ok (length w)
   pub bytes : (room : Bytes) → length w ≤ length room → shown u room ≡ w
 
 -- writing from the components that reading reports of an accepted input, with that input as the lent bytes, gives its bytes again
 abbrev pub ReadWrite : Type 0
-ReadWrite = (lim : Limits) (bs : Bytes) → Octets bs → readCall lim bs .number ≡ 0 → Writes (writeCall lim (readCall lim bs .components) bs) bs
+ReadWrite = (lim : Limits) (bs : Bytes) (c : Components) → Octets bs → readCall lim bs ≡ ok c → Writes (writeCall lim c bs) bs
+
+-- the bytes w are read, as components whose contents in w are those of c in the lent bytes
+pub record Reread (lim : Limits) (c : Components) (lent w : Bytes) : Type 0 where
+  pub components : Components
+  pub accepted : readCall lim w ≡ ok components
+  pub contents : mapParts (taken w) components ≡ mapParts (taken lent) c
 
 -- what was written from components is accepted, and reading it gives components with the same contents
 abbrev pub WriteRead : Type 0
 WriteRead =
-    (lim : Limits) → lim .segments < 2 ^ 64 → (c : Components) (lent w : Bytes) → length lent < 2 ^ 64 → Sized c → writeCall lim c lent ≡ write w
-    → (readCall lim w .number ≡ 0) × (mapParts (taken w) (readCall lim w .components) ≡ mapParts (taken lent) c)
+    (lim : Limits) → lim .segments < 2 ^ 64 → (c : Components) (lent w : Bytes) → length lent < 2 ^ 64 → Sized c → writeCall lim c lent ≡ ok w
+    → Reread lim c lent w
 
 -- ---- demand 3: two different CRIs never print as one text
 
 -- For any two inputs that the reader accepts as absolute, with room enough, whatever the rooms hold, both URI texts are written,
 -- and they are equal, length and bytes, exactly when the two are the same CRI.
-pub record BothPrinted (u v : Ruling) (c d : Cri) (x y : Bytes) : Type 0 where
-  pub first : outcome u (length x) ≡ done (length (uriText c))
-  pub second : outcome v (length y) ≡ done (length (uriText d))
+pub record BothPrinted (u v : Res Bytes) (c d : Cri) (x y : Bytes) : Type 0 where
+  pub first : outcome u (length x) ≡ ok (length (uriText c))
+  pub second : outcome v (length y) ≡ ok (length (uriText d))
   pub firstText : shown u x ≡ uriText c
   pub secondText : shown v y ≡ uriText d
-  pub same : ((outcome u (length x) .length ≡ outcome v (length y) .length) × (shown u x ≡ shown v y)) ↔ Same c d
+  pub same : ((lengthOf (outcome u (length x)) ≡ lengthOf (outcome v (length y))) × (shown u x ≡ shown v y)) ↔ Same c d
 
 -- for any limits
 abbrev pub Demand3 : Type 0
@@ -218,17 +228,17 @@ abbrev pub Bound : Type 0
 Bound =
     (lim : Limits) (bs : Bytes) (c : Cri) → Octets bs → readAbsolute lim bs ≡ ok c
     → (length (uriText c) ≤ 3 * length bs + 13)
-    × ((n : ℕ) → 3 * length bs + 13 ≤ n → outcome (textCall lim bs) n ≡ done (length (uriText c)))
+    × ((n : ℕ) → 3 * length bs + 13 ≤ n → outcome (textCall lim bs) n ≡ ok (length (uriText c)))
 
 -- ---- resolving
 
 -- resolving an accepted reference against an accepted absolute base gives an absolute CRI, whose reference is valid and read again
 -- as that CRI, unless 9 applies
 pub record Resolved (lim : Limits) (base ref : Bytes) (c : Cri) : Type 0 where
-  pub written : fits lim c ≡ true → resolveCall lim base ref ≡ write (encode (reference c))
+  pub written : fits lim c ≡ true → resolveCall lim base ref ≡ ok (encode (reference c))
   pub valid : fits lim c ≡ true → Valid lim (reference c)
   pub again : fits lim c ≡ true → readAbsolute lim (encode (reference c)) ≡ ok c
-  pub refusal : fits lim c ≡ false → resolveCall lim base ref ≡ refuse RESULT
+  pub refusal : fits lim c ≡ false → resolveCall lim base ref ≡ refused RESULT 0
 
 -- for any limits that a CBOR head can count
 abbrev pub Resolving : Type 0
@@ -257,13 +267,13 @@ abbrev pub ResolvedAgain : Type 0
 ResolvedAgain =
     (lim : Limits) → lim .segments < 2 ^ 64 → (base ref : Bytes) (b : Cri) (r : Reference) → Octets base → Octets ref
     → readAbsolute lim base ≡ ok b → readReference lim ref ≡ ok r → fits lim (resolve b r) ≡ true
-    → resolveCall lim (encode (reference (resolve b r))) (hex "80") ≡ write (encode (reference (unfragmented (resolve b r))))
+    → resolveCall lim (encode (reference (resolve b r))) (hex "80") ≡ ok (encode (reference (unfragmented (resolve b r))))
 
 -- an absolute reference resolves to itself in normal form, whatever the base, and never gets 9
 abbrev pub AbsoluteReference : Type 0
 AbsoluteReference =
     (lim : Limits) (base ref : Bytes) (b c : Cri) → Octets ref → readAbsolute lim base ≡ ok b → readAbsolute lim ref ≡ ok c
-    → resolveCall lim base ref ≡ write (encode (reference (normal c)))
+    → resolveCall lim base ref ≡ ok (encode (reference (normal c)))
 
 -- ---- CoAP options: what is coded is read back
 
@@ -289,15 +299,15 @@ pub record Requested (lim : Limits) (bs toAddress : Bytes) (toPort : ℕ) (w : B
 -- for any limits and any destination
 abbrev pub OptionsRead : Type 0
 OptionsRead =
-    (lim : Limits) (bs toAddress : Bytes) (toPort : ℕ) (w : Bytes) → Octets bs → optionsCall lim bs toAddress toPort ≡ write w
+    (lim : Limits) (bs toAddress : Bytes) (toPort : ℕ) (w : Bytes) → Octets bs → optionsCall lim bs toAddress toPort ≡ ok w
     → Requested lim bs toAddress toPort w
 
 -- for an n-byte encoding the options are never longer than 2n + 16 bytes, so a room of that length is enough
 abbrev pub OptionsBound : Type 0
 OptionsBound =
-    (lim : Limits) (bs toAddress : Bytes) (toPort : ℕ) (w : Bytes) → Octets bs → optionsCall lim bs toAddress toPort ≡ write w
+    (lim : Limits) (bs toAddress : Bytes) (toPort : ℕ) (w : Bytes) → Octets bs → optionsCall lim bs toAddress toPort ≡ ok w
     → (length w ≤ 2 * length bs + 16)
-    × ((n : ℕ) → 2 * length bs + 16 ≤ n → outcome (optionsCall lim bs toAddress toPort) n ≡ done (length w))
+    × ((n : ℕ) → 2 * length bs + 16 ≤ n → outcome (optionsCall lim bs toAddress toPort) n ≡ ok (length w))
 
 -- ---- worked examples, by computing
 
@@ -306,7 +316,7 @@ abbrev pub Starred : Type 0
 Starred = AllHold B starred
 
 -- the remaining rows, the two slips, each item of a reference, refusals with their places, accepted inputs, sizes, texts, escapes, options,
--- option bytes read back, IPv6 texts and views, one statement
+-- option bytes read back, IPv6 texts, views and refused bases, one statement
 pub record Examples : Type 0 where
   pub rows : AllHold B unstarred
   pub slipped : AllHold longBase slips
@@ -321,3 +331,4 @@ pub record Examples : Type 0 where
   pub ipv6 : map ipv6Printed addresses ≡ addresses
   pub segments : map answeredSegment segmentRows ≡ segmentRows
   pub authorities : map answeredAuthority authorityRows ≡ authorityRows
+  pub bases : map answeredBase bases ≡ bases

@@ -80,11 +80,3 @@ asBase (ok a) = ok a
 -- 5.5 RESULT: over the segments or the bytes that a CRI may have
 unfoldable pub fits : Limits → Cri → Bool
 fits lim c = leb (length (c .path)) (lim .segments) && leb (length (encode (reference c))) (lim .bytes)
-
--- RULES 3.3: 8 for the base, then the reference's 1 to 7, then 9
-unfoldable pub resolved : Limits → Bytes → Bytes → Res Bytes
-resolved lim base ref = do
-  b ← asBase (readAbsolute lim base)
-  r ← readReference lim ref
-  need (fits lim (resolve b r)) RESULT 0
-  ok (encode (reference (resolve b r)))

@@ -54,7 +54,7 @@ abbrev pub pieceShown : Res Piece → Piece
 pieceShown (refused n k) = ofReference nowhere
 pieceShown (ok p) = p
 
--- 10.3: a second call tells its number
-abbrev pub numberOf : {A : Type 0} → Res A → ℕ
-numberOf (refused n k) = n
-numberOf (ok a) = 0
+-- 10.3: a second call tells whether it is given, or the refusal
+abbrev pub verdict : {A : Type 0} → Res A → Res (Unit {0})
+verdict (refused n k) = refused n k
+verdict (ok a) = ok tt

@@ -1,4 +1,4 @@
--- RULES 9: writing from components, and the components that reading reports.
+-- RULES 9: what writing from components asks of them.
 use Prim.Native.Nat.{ℕ, _+_, _^_, _<_}
 use mathlib.Core.Path.{_≡_}
 use mathlib.Core.Bool.{Bool, true, _&&_}
@@ -89,30 +89,3 @@ Lie lent ts = all (inside lent) ts ≡ true
 abbrev pub placeless : {A : Type 0} → Res A → Res A
 placeless (refused n k) = refused n 0
 placeless (ok a) = ok a
-
--- 9.2: 4; 9.3: then the number that the reader has for the encoding
-unfoldable pub written : Limits → Components → Bytes → Res Bytes
-written lim c lent = do
-  need (counted lim c) LIMIT 0
-  need (all (inside lent) (allTexts c)) LIMIT 0
-  placeless (read lim (encode (mapParts (taken lent) c)))
-  ok (encode (mapParts (taken lent) c))
-
--- ---- reading
-
--- what reading answers
-pub record Reading : Type 0 where
-  pub number : ℕ
-  pub components : Components
-
--- 9.5: a refused read reports every component unset
-abbrev pub noComponents : Components
-noComponents = record { opening = full none none; path = none; query = none; fragment = none }
-
--- the number, 0 where it accepts, and the components
-unfoldable pub readCall : Limits → Bytes → Reading
-readCall lim bs = reading (read lim bs)
-  where
-    reading : Res Found → Reading
-    reading (refused n k) = record { number = n; components = noComponents }
-    reading (ok f) = record { number = 0; components = components bs f }

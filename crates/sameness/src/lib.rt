@@ -5,40 +5,51 @@ ghost use mathlib.Core.Bool.{true};
 ghost use mathlib.Core.Logic.{_↔_};
 ghost use lib.ListN.{length};
 ghost use Rattle.rules.specs.Model.{limits};
-ghost use Rattle.rules.specs.Calls.{after, textCall};
+ghost use Rattle.rules.specs.Calls.{lengthOf, after, textCall};
+ghost use Rattle.rules.specs.Views.{verdict};
+ghost use Rattle.refusals.specs.Answers.{verdictIs};
+ghost use Rattle.outcomes.specs.Answers.{outcomeIs};
 ghost use Rattle.sameness.specs.Answers.{WroteSame, Answered, CallsDemand3, Judged};
-use cri::Done;
-use numbers::DONE;
+use cri::Outcome;
 use numbers::TEXT_ROOM;
+use refusals::Verdict;
 
 // What the two calls answered, and whether both wrote a text and the two texts are equal.
 pub struct Compared {
-    pub first: Done,
-    pub second: Done,
+    pub first: Outcome,
+    pub second: Outcome,
     pub equal: bool,
 }
 
-// The numbers of the two calls, and whether both links are accepted as absolute and are the same CRI.
-pub struct Verdict {
-    pub first: u8,
-    pub second: u8,
+// Of each link, whether it is accepted as absolute, or the refusal; and whether both are, and are the same CRI.
+pub struct Judgement {
+    pub first: Verdict,
+    pub second: Verdict,
     pub equal: bool,
 }
 
 // Whether two calls, which left their rooms as x and y, both wrote, and what they wrote is equal, length and bytes.
-fn wrote_same(first: Done, second: Done, x: &[u8], y: &[u8]) -> bool
-    requires { ⌜ (first .length ≤ length (now x)) × (second .length ≤ length (now y)) ⌝ }
+fn wrote_same(first: Outcome, second: Outcome, x: &[u8], y: &[u8]) -> bool
+    requires { ⌜ (lengthOf (outcomeIs first) ≤ length (now x)) × (lengthOf (outcomeIs second) ≤ length (now y)) ⌝ }
     ensures { λ r. ⌜ (r ≡ true) ↔ WroteSame first second (now (x .entry)) (now (y .entry)) ⌝ }
 {
-    if first.number != DONE {
-        return false;
+    match first {
+        Outcome::Refused(_) => false,
+        Outcome::Written(n) => match second {
+            Outcome::Refused(_) => false,
+            Outcome::Written(m) => same_bytes::same_at(x, 0, n, &y[..m]),
+        },
     }
-    if second.number != DONE {
-        return false;
+}
+
+// Whether a call is done, or its refusal.
+fn verdict_of(outcome: Outcome) -> Verdict
+    ensures { λ r. ⌜ verdictIs r ≡ verdict (outcomeIs outcome) ⌝ }
+{
+    match outcome {
+        Outcome::Written(_) => Verdict::Accepted,
+        Outcome::Refused(refusal) => Verdict::Refused(refusal),
     }
-    let n = first.length;
-    let m = second.length;
-    same_bytes::same_at(x, 0, n, &y[..m])
 }
 
 // Writes the URI text of the first link into the room x and that of the second into the room y, and compares what was written. Each call
@@ -58,8 +69,8 @@ pub fn compare(first: &[u8], second: &[u8], x: &mut [u8], y: &mut [u8]) -> Compa
     }
 }
 
-// Whether two links are the same CRI. The rooms are long enough for the text of every accepted link, so no number is 10.
-pub fn judge(first: &[u8], second: &[u8]) -> Verdict
+// Whether two links are the same CRI. The rooms are long enough for the text of every accepted link, so no refusal is 10.
+pub fn judge(first: &[u8], second: &[u8]) -> Judgement
     ensures { λ r. ⌜ Judged (now (first .entry)) (now (second .entry)) r ⌝ }
 {
     let mut x = [0u8; TEXT_ROOM];
@@ -67,9 +78,9 @@ pub fn judge(first: &[u8], second: &[u8]) -> Verdict
     let compared = compare(first, second, &mut x, &mut y);
     let one = compared.first;
     let other = compared.second;
-    Verdict {
-        first: one.number,
-        second: other.number,
+    Judgement {
+        first: verdict_of(one),
+        second: verdict_of(other),
         equal: compared.equal,
     }
 }

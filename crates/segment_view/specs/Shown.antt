@@ -3,9 +3,10 @@ use Prim.Native.Nat.{_+_}
 use mathlib.Core.Path.{_≡_}
 use denote.Ref.{RefT, ptr, now}
 use Rattle.rules.specs.Bytes.{Bytes}
-use Rattle.rules.specs.Result.{Res, refused, ok}
+use Rattle.rules.specs.Result.{Res, ok}
 use Rattle.rules.specs.Model as Model
 use Rattle.rules.specs.Reader.{taken}
+use Rattle.refusals.specs.Answers.{refusalIs}
 use Rattle.cbor.specs.Heads.{spanIs}
 use Rattle.segment_view.specs.declared.View.{View}
 use Rattle.segment_view.specs.declared.View.the-variants as ViewV
@@ -17,4 +18,4 @@ PartOf s r span = (ptr r ≡ (ptr s .0, span .start + ptr s .1)) × (now r ≡ t
 -- where a part stands, or a refusal
 abbrev pub viewIs : View → Res Model.Span
 viewIs (ViewV.At s) = ok (spanIs s)
-viewIs (ViewV.Refused n place) = refused n place
+viewIs (ViewV.Refused r) = refusalIs r

@@ -6,23 +6,25 @@ ghost use Rattle.rules.specs.Result.{given, NONE};
 ghost use Rattle.rules.specs.Model.{elements, limits};
 ghost use Rattle.rules.specs.Reader.{spanAt};
 ghost use Rattle.rules.specs.Meaning.{textSpans};
-ghost use Rattle.rules.specs.Views.{segmentView, segmentShown, numberOf};
+ghost use Rattle.rules.specs.Views.{segmentView, segmentShown, verdict};
 ghost use Rattle.rules.specs.Standing.{RowAt, TextsStand};
 ghost use Rattle.cbor.specs.Heads.{spanIs};
 ghost use Rattle.reader.specs.Answers.{slotOf};
 ghost use Rattle.cbor_rows.specs.Rows.{nthAt};
+ghost use Rattle.refusals.specs.Answers.{verdictIs};
 ghost use Rattle.segment_view.specs.Shown.{PartOf, viewIs};
 use cbor::Span;
 use cbor::span_at;
-use numbers::DONE;
 use numbers::NONE;
 use reader::Answer;
 use reader::Slot;
+use refusals::Refusal;
+use refusals::Verdict;
 
-// Where a part stands; or a refusal's number and place.
+// Where a part stands; or the refusal.
 enum View {
     At(Span),
-    Refused(u8, usize),
+    Refused(Refusal),
 }
 
 // Where the content of the n-th item stands, from 0, of those that stand in a row from a position on.
@@ -39,12 +41,18 @@ fn path_segment(s: &[u8], path: Slot, n: usize) -> View
     ensures { λ r. ⌜ viewIs r ≡ given (getElem? (elements (textSpans (now (s .entry)) (slotOf path))) n) NONE 0 ⌝ }
 {
     match path {
-        Slot::Unset => View::Refused(NONE, 0),
+        Slot::Unset => View::Refused(Refusal {
+            number: NONE,
+            place: 0,
+        }),
         Slot::Set { at, count } => {
             if n < count {
                 View::At(nth_span(s, at, n))
             } else {
-                View::Refused(NONE, 0)
+                View::Refused(Refusal {
+                    number: NONE,
+                    place: 0,
+                })
             }
         }
     }
@@ -59,7 +67,7 @@ fn nth_segment(s: &[u8], n: usize) -> View
             let path = found.path;
             path_segment(s, path, n)
         }
-        Answer::Refused(k, place) => View::Refused(k, place),
+        Answer::Refused(refusal) => View::Refused(refusal),
     }
 }
 
@@ -73,16 +81,16 @@ pub fn segment(link: &[u8], n: usize) -> &[u8]
             let end = start + span.length;
             &link[start..end]
         }
-        View::Refused(_, _) => &link[..0],
+        View::Refused(_) => &link[..0],
     }
 }
 
-// 0 where that segment is there; 1 to 7 where the link is refused; 18 where it has no such segment.
-pub fn segment_number(link: &[u8], n: usize) -> u8
-    ensures { λ r. ⌜ r ≡ numberOf (segmentView limits (now (link .entry)) n) ⌝ }
+// Accepted where that segment is there; 1 to 7 where the link is refused; 18 where it has no such segment.
+pub fn segment_verdict(link: &[u8], n: usize) -> Verdict
+    ensures { λ r. ⌜ verdictIs r ≡ verdict (segmentView limits (now (link .entry)) n) ⌝ }
 {
     match nth_segment(link, n) {
-        View::At(_) => DONE,
-        View::Refused(k, _) => k,
+        View::At(_) => Verdict::Accepted,
+        View::Refused(refusal) => Verdict::Refused(refusal),
     }
 }

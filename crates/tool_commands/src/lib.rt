@@ -1,8 +1,13 @@
 // The commands of cri_tool. What is asked for goes to standard output; a refusal that was not asked for, and what is wrong with the arguments,
-// to standard error. Each command makes one call of the library, or two, with room enough for every answer.
+// to standard error. Each command makes a call of the library or two, with room enough for every answer; after a refused base a further one.
+use cri::Outcome;
+use cri::Refusal;
+use cri::Verdict;
+use numbers::BASE;
 use numbers::BYTES;
-use numbers::DONE;
+use numbers::DEST;
 use numbers::OPTIONS_ROOM;
+use numbers::RESULT;
 use numbers::TEXT_ROOM;
 use output::at_most;
 use tool_arguments::Fault;
@@ -16,13 +21,14 @@ use tool_arguments::warn_fault;
 use tool_messages::say;
 use tool_messages::say_address;
 use tool_messages::say_bytes;
+use tool_messages::say_components;
 use tool_messages::say_hex;
 use tool_messages::say_options;
-use tool_messages::say_reference;
 use tool_messages::say_refusal;
 
 enum Command {
     Show,
+    Dump,
     Text,
     Resolve,
     Options,
@@ -34,6 +40,9 @@ enum Command {
 fn command_of(name: &[u8]) -> Command {
     if check::same(name, b"show") {
         return Command::Show;
+    }
+    if check::same(name, b"dump") {
+        return Command::Dump;
     }
     if check::same(name, b"text") {
         return Command::Text;
@@ -59,6 +68,7 @@ fn command_of(name: &[u8]) -> Command {
 fn warn_call(command: Command) {
     match command {
         Command::Show => warn(b"; call: cri_tool show HEX\n"),
+        Command::Dump => warn(b"; call: cri_tool dump HEX\n"),
         Command::Text => warn(b"; call: cri_tool text HEX\n"),
         Command::Resolve => warn(b"; call: cri_tool resolve BASE REFERENCE\n"),
         Command::Options => warn(b"; call: cri_tool options HEX ADDRESS PORT\n"),
@@ -75,59 +85,80 @@ fn complain(command: Command, argument: &[u8], fault: Fault) {
     warn_call(command);
 }
 
-// A refusal, after what was refused.
-fn refuse(what: &[u8], number: u8) {
-    warn(what);
-    say_refusal(libc::STDERR_FILENO, number);
+// A refusal of an argument.
+fn refuse(argument: &[u8], s: &[u8], refusal: Refusal) {
+    say_refusal(libc::STDERR_FILENO, argument, s, refusal);
 }
 
-// ---- show
+// The same of an argument that is refused.
+fn refuse_if(argument: &[u8], s: &[u8], verdict: Verdict) {
+    match verdict {
+        Verdict::Accepted => {}
+        Verdict::Refused(refusal) => refuse(argument, s, refusal),
+    }
+}
 
-// The URI text of an absolute CRI, after `before`; nothing where it has none. The result is the number of the call.
-fn say_uri_text(before: &[u8], s: &[u8]) -> u8 {
+fn is_accepted(verdict: Verdict) -> bool {
+    match verdict {
+        Verdict::Accepted => true,
+        Verdict::Refused(_) => false,
+    }
+}
+
+// ---- show, dump, text
+
+// The URI text of an absolute CRI, after `before`; nothing where it has none.
+fn say_uri_text(before: &[u8], s: &[u8]) -> Verdict {
     let mut room = [0u8; TEXT_ROOM];
-    let done = cri::uri_text(s, &mut room);
-    if done.number == DONE {
-        let n = at_most(done.length, &room);
-        say(before);
-        say(&room[..n]);
-        say(b"\n");
+    match cri::uri_text(s, &mut room) {
+        Outcome::Written(length) => {
+            let n = at_most(length, &room);
+            say(before);
+            say(&room[..n]);
+            say(b"\n");
+            Verdict::Accepted
+        }
+        Outcome::Refused(refusal) => Verdict::Refused(refusal),
     }
-    done.number
 }
 
-// show HEX: the components, and the URI text; or why it is refused, and where.
-fn show() {
+// The components, and the URI text; or the refusal.
+fn show(s: &[u8]) {
+    let reading = cri::read(s);
+    let verdict = reading.verdict;
+    let components = reading.components;
+    match verdict {
+        Verdict::Refused(refusal) => say_refusal(libc::STDOUT_FILENO, b"HEX", s, refusal),
+        Verdict::Accepted => {
+            say_components(s, components);
+            say_uri_text(b"text      ", s);
+        }
+    }
+}
+
+// The URI text.
+fn text(s: &[u8]) {
+    refuse_if(b"HEX", s, say_uri_text(b"", s));
+}
+
+fn run_on(command: Command, s: &[u8]) {
+    match command {
+        Command::Show => show(s),
+        Command::Dump => tool_dump::say_dump(s),
+        _ => text(s),
+    }
+}
+
+// A command that has HEX alone, which may be several arguments.
+fn run_on_hex(command: Command) {
     let mut room = [0u8; 32768];
     let taken = take_joined(&mut room);
     let fault = taken.fault;
     if is_fault(fault) {
-        return complain(Command::Show, b"HEX", fault);
+        return complain(command, b"HEX", fault);
     }
     let n = at_most(taken.length, &room);
-    say_reference(&room[..n]);
-    say_uri_text(b"text      ", &room[..n]);
-}
-
-// ---- text
-
-fn say_text(s: &[u8]) {
-    let number = say_uri_text(b"", s);
-    if number != DONE {
-        refuse(b"", number);
-    }
-}
-
-// text HEX: the URI text.
-fn text() {
-    let mut room = [0u8; 32768];
-    let taken = take_joined(&mut room);
-    let fault = taken.fault;
-    if is_fault(fault) {
-        return complain(Command::Text, b"HEX", fault);
-    }
-    let n = at_most(taken.length, &room);
-    say_text(&room[..n]);
+    run_on(command, &room[..n]);
 }
 
 // ---- resolve
@@ -138,14 +169,35 @@ fn say_cri(s: &[u8]) {
     say_uri_text(b"\n", s);
 }
 
+// A refused base, and which of the two it is: refused by the reader too, or not absolute.
+fn refuse_base(base: &[u8], refusal: Refusal) {
+    refuse(b"BASE", base, refusal);
+    let reading = cri::read(base);
+    let verdict = reading.verdict;
+    match verdict {
+        Verdict::Accepted => warn(b"read by itself it is accepted: it is not absolute\n"),
+        Verdict::Refused(cause) => refuse(b"read by itself it", base, cause),
+    }
+}
+
+fn refuse_resolved(base: &[u8], reference: &[u8], refusal: Refusal) {
+    let number = refusal.number;
+    match number {
+        BASE => refuse_base(base, refusal),
+        RESULT => refuse(b"the result", reference, refusal),
+        _ => refuse(b"REFERENCE", reference, refusal),
+    }
+}
+
 fn say_resolved(base: &[u8], reference: &[u8]) {
     let mut room = [0u8; BYTES];
-    let done = cri::resolve(base, reference, &mut room);
-    if done.number != DONE {
-        return refuse(b"", done.number);
+    match cri::resolve(base, reference, &mut room) {
+        Outcome::Written(length) => {
+            let n = at_most(length, &room);
+            say_cri(&room[..n])
+        }
+        Outcome::Refused(refusal) => refuse_resolved(base, reference, refusal),
     }
-    let n = at_most(done.length, &room);
-    say_cri(&room[..n]);
 }
 
 // From the reference on.
@@ -191,15 +243,23 @@ fn say_coded(s: &[u8]) {
     say(b"\n");
 }
 
+fn refuse_request(s: &[u8], address: &[u8], refusal: Refusal) {
+    if refusal.number == DEST {
+        return refuse(b"ADDRESS", address, refusal);
+    }
+    refuse(b"HEX", s, refusal);
+}
+
 fn say_request(s: &[u8], address: &[u8], port: u16) {
     let mut room = [0u8; OPTIONS_ROOM];
-    let done = cri::options(s, address, port, &mut room);
-    if done.number != DONE {
-        return refuse(b"", done.number);
+    match cri::options(s, address, port, &mut room) {
+        Outcome::Written(length) => {
+            let n = at_most(length, &room);
+            say_destination(address, port);
+            say_coded(&room[..n])
+        }
+        Outcome::Refused(refusal) => refuse_request(s, address, refusal),
     }
-    let n = at_most(done.length, &room);
-    say_destination(address, port);
-    say_coded(&room[..n]);
 }
 
 // From the port on.
@@ -238,25 +298,27 @@ fn options() {
 
 // ---- same
 
-fn say_verdict(equal: bool) {
+fn say_equal(equal: bool) {
     if equal {
         return say(b"same\n");
     }
     say(b"different\n");
 }
 
-// Whether the two are the same CRI, and both texts.
+// Whether the two are the same CRI, and both texts; or the refusals.
 fn say_same(first: &[u8], second: &[u8]) {
-    let verdict = sameness::judge(first, second);
-    if verdict.first != 0 {
-        return refuse(b"the first is ", verdict.first);
+    let judgement = sameness::judge(first, second);
+    let one = judgement.first;
+    let other = judgement.second;
+    refuse_if(b"the first HEX", first, one);
+    refuse_if(b"the second HEX", second, other);
+    if is_accepted(one) {
+        if is_accepted(other) {
+            say_equal(judgement.equal);
+            say_uri_text(b"", first);
+            say_uri_text(b"", second);
+        }
     }
-    if verdict.second != 0 {
-        return refuse(b"the second is ", verdict.second);
-    }
-    say_verdict(verdict.equal);
-    say_uri_text(b"", first);
-    say_uri_text(b"", second);
 }
 
 // From the second on.
@@ -288,10 +350,10 @@ fn same() {
 // help: what the commands are.
 fn help() {
     say(
-        b"Reads, checks, resolves and prints Constrained Resource Identifiers (CRIs).\n\n  cri_tool show HEX                    the components, and the URI text; or why it is refused, and where\n  cri_tool text HEX                    the URI text\n  cri_tool resolve BASE REFERENCE      the resolved CRI in hex, and its URI text\n  cri_tool options HEX ADDRESS PORT    the CoAP options of a request sent to that address and port\n  cri_tool same HEX HEX                whether two links are the same CRI, and both URI texts\n  cri_tool help                        this text\n\n",
+        b"Reads, checks, resolves and prints Constrained Resource Identifiers (CRIs).\n\n  cri_tool show HEX                    the components, and the URI text\n  cri_tool dump HEX                    each item with its offset, its bytes and what it says; then CBOR diagnostic notation\n  cri_tool text HEX                    the URI text\n  cri_tool resolve BASE REFERENCE      the resolved CRI in hex, and its URI text\n  cri_tool options HEX ADDRESS PORT    the CoAP options of a request sent to that address and port\n  cri_tool same HEX HEX                whether two links are the same CRI, and both URI texts\n  cri_tool help                        this text\n\n",
     );
     say(
-        b"HEX, BASE and REFERENCE are hex digits of either case, with blanks anywhere: in quotation marks, where other arguments follow.\n\"-\" reads one of them from standard input.\nADDRESS is dotted (198.51.100.1), IPv6 (2001:db8::1) or hex. PORT is a number from 0 to 65535.\nAnswers go to standard output. Refusals, but those that \"show\" explains, and faults of the arguments go to standard error.\n",
+        b"HEX, BASE and REFERENCE are hex digits of either case, with blanks anywhere: in quotation marks, where other arguments follow.\n\"-\" reads one of them from standard input.\nADDRESS is dotted (198.51.100.1), IPv6 (2001:db8::1) or hex. PORT is a number from 0 to 65535.\nA refusal tells which argument is refused, why, by which rules of docs/RULES.md, and where: a hex dump shows the bytes around the place, which is marked.\nOffsets are in hex. Answers, and refusals by \"show\" and \"dump\", go to standard output; other refusals, and faults of the arguments, to standard error.\n",
     );
 }
 
@@ -299,8 +361,9 @@ fn help() {
 
 fn run(command: Command) {
     match command {
-        Command::Show => show(),
-        Command::Text => text(),
+        Command::Show => run_on_hex(command),
+        Command::Dump => run_on_hex(command),
+        Command::Text => run_on_hex(command),
         Command::Resolve => resolve(),
         Command::Options => options(),
         Command::Same => same(),

@@ -32,7 +32,7 @@ pub fn say_bytes(s: &[u8]) {
 }
 
 // Whether a byte is a printable character of ASCII.
-fn is_printable(b: u8) -> bool {
+pub fn is_printable(b: u8) -> bool {
     match b {
         32..=126 => true,
         _ => false,

@@ -1,9 +1,10 @@
-// A reference, each component on a line of its own; or why it is refused.
+// The components of a reference, each on a line of its own.
+use crate::counts::say_count;
+use crate::counts::say_negative;
+use crate::counts::say_number;
 use crate::quotes::say;
 use crate::quotes::say_address;
 use crate::quotes::say_quoted;
-use crate::refusals::say_place;
-use crate::refusals::say_refusal;
 use cbor::Span;
 use components::Authority;
 use components::Components;
@@ -11,16 +12,10 @@ use components::Fragment;
 use components::Opening;
 use components::Scheme;
 use components::Texts;
-use numbers::DONE;
 use numbers::LABELS;
 use numbers::PARAMETERS;
 use numbers::SEGMENTS;
-use reader::Answer;
 use reader::Port;
-use schemes::SchemeId;
-use schemes::SchemeNumber;
-use schemes::scheme_id;
-use schemes::scheme_number;
 
 // ---- texts
 
@@ -47,10 +42,6 @@ fn say_address_span(s: &[u8], span: Span) {
     say(b"\n");
 }
 
-fn say_number(n: u64) {
-    io::print_decimal(libc::STDOUT_FILENO, n);
-}
-
 // The texts that stand in arrays.
 enum Group {
     Labels,
@@ -58,22 +49,14 @@ enum Group {
     Parameters,
 }
 
-fn say_thing(group: Group) {
+// How many texts a group has, and the end of the line.
+fn say_size(group: Group, count: u64) {
     match group {
-        Group::Labels => say(b" label"),
-        Group::Segments => say(b" segment"),
-        Group::Parameters => say(b" parameter"),
+        Group::Labels => say_count(count, b"label"),
+        Group::Segments => say_count(count, b"segment"),
+        Group::Parameters => say_count(count, b"parameter"),
     }
-}
-
-// "1 segment" or "2 segments", and the end of the line.
-fn say_count(group: Group, count: u64) {
-    say_number(count);
-    say_thing(group);
-    if count == 1 {
-        return say(b"\n");
-    }
-    say(b"s\n");
+    say(b"\n");
 }
 
 // The empty span at 0.
@@ -95,7 +78,7 @@ fn say_numbered(s: &[u8], i: usize, span: Span) {
 
 // How many texts there are, and each on a line of its own.
 fn say_texts(s: &[u8], c: Components, group: Group, count: usize) {
-    say_count(group, count as u64);
+    say_size(group, count as u64);
     let mut i = 0;
     while i < count {
         let span = match group {
@@ -115,7 +98,7 @@ fn say_texts(s: &[u8], c: Components, group: Group, count: usize) {
 // ---- components
 
 // The name of a scheme's number (RULES 1.6).
-fn say_scheme_name(number: u64) {
+pub fn say_scheme_name(number: u64) {
     let mut name = [0u8; schemes::NAME_ROOM];
     let end = schemes::put_name(&mut name, 0, number);
     if end == 0 {
@@ -125,27 +108,12 @@ fn say_scheme_name(number: u64) {
     }
 }
 
-// The integer that carries a scheme's number: n + 1 below 0.
-fn say_scheme_id(id: i64) {
-    match scheme_number(id) {
-        SchemeNumber::NotNegative => {}
-        SchemeNumber::Is(n) => {
-            if n < u64::MAX {
-                say(b", carried as -");
-                say_number(n + 1);
-            }
-        }
-    }
-}
-
 fn say_scheme_number(number: u64) {
     say_scheme_name(number);
     say(b", number ");
     say_number(number);
-    match scheme_id(number) {
-        SchemeId::TooLarge => {}
-        SchemeId::Is(id) => say_scheme_id(id),
-    }
+    say(b", carried as ");
+    say_negative(number);
     say(b"\n");
 }
 
@@ -189,7 +157,7 @@ fn say_opening(s: &[u8], c: Components) {
     match opening {
         Opening::Discard(k) => {
             say(b"discard   ");
-            say_count(Group::Segments, k)
+            say_size(Group::Segments, k)
         }
         Opening::DiscardAll => say(b"discard   all segments\n"),
         Opening::Full(scheme, authority) => {
@@ -214,7 +182,9 @@ fn say_fragment(s: &[u8], fragment: Fragment) {
     }
 }
 
-fn say_components(s: &[u8], c: Components) {
+// ---- the whole
+
+pub fn say_components(s: &[u8], c: Components) {
     let path = c.path;
     let query = c.query;
     let fragment = c.fragment;
@@ -224,27 +194,4 @@ fn say_components(s: &[u8], c: Components) {
     say(b"query     ");
     say_slot(s, c, Group::Parameters, query);
     say_fragment(s, fragment);
-}
-
-// ---- the whole
-
-// A refusal of the reader, with its place.
-fn say_refused(s: &[u8]) {
-    match reader::read(s) {
-        Answer::Is(_) => return,
-        Answer::Refused(number, place) => {
-            say_refusal(libc::STDOUT_FILENO, number);
-            say_place(s, place)
-        }
-    }
-}
-
-// The components of a reference; or why it is refused, and where.
-pub fn say_reference(s: &[u8]) {
-    let reading = components::read(s);
-    let components = reading.components;
-    if reading.number == DONE {
-        return say_components(s, components);
-    }
-    say_refused(s);
 }

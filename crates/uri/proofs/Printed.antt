@@ -13,12 +13,12 @@ use Rattle.rules.specs.Reader.{Slot, unset, set, OpeningAt, discardAt, discardA
 use Rattle.rules.specs.Meaning.{meaning, readReference, readAbsolute, saidOpening, said}
 use Rattle.rules.specs.Valid.{GoodOpening}
 use Rattle.rules.specs.Text.{schemeText, authorityText, pathText, hierarchyText, uriText}
-use Rattle.rules.specs.Calls.{refuse, write, textCall}
+use Rattle.rules.specs.Calls.{textCall}
 use Rattle.rules.specs.Standing.{OpeningStands, TextsStand}
 use Rattle.rules.proofs.Steps.{ok-at, bind-ok}
 use Rattle.rules.proofs.Reading.{meaning-said, canonical}
 use Rattle.rules.proofs.Standing.{read-size, stands}
-use Rattle.rules.proofs.Absolutes.{Absolute, absolute-is, withPath, absolute-same, read-absolute, text-ruled}
+use Rattle.rules.proofs.Absolutes.{Absolute, absolute-is, withPath, absolute-same, read-absolute, text-of}
 use Rattle.rules.proofs.TextBound.{read-bound}
 use Rattle.absolutes.specs.Bases.{isAbsolute}
 use Rattle.absolutes.proofs.AbsoluteOpenings.{absolute-opening, relative-opening}
@@ -58,15 +58,15 @@ texts-print : (most : ℕ) (bs : Bytes) (p : Slot) → TextsStand most bs p → 
 texts-print most bs unset h = tt
 texts-print most bs (set at n) h = h .each
 
--- ---- what the call rules
+-- ---- what the call answers
 
-pub text-refused : (bs : Bytes) (n k : ℕ) → read limits bs ≡ refused n k → textCall limits bs ≡ refuse n
-unfolding readAbsolute readReference _>>=_
-text-refused bs n k e = text-ruled limits bs (refused n k) (rw e)
+pub text-refused : (bs : Bytes) (n k : ℕ) → read limits bs ≡ refused n k → textCall limits bs ≡ refused n k
+unfolding textCall readAbsolute readReference _>>=_
+text-refused bs n k e = rw e
 
-pub text-relative : (bs : Bytes) (f : Found) → read limits bs ≡ ok f → isAbsolute (f .opening) ≡ false → textCall limits bs ≡ refuse BASE
-unfolding given
-text-relative bs f e t = text-ruled limits bs (refused BASE 0) (read-absolute limits bs f e ∙ ap (λ (o : Option Cri). given o BASE 0) (relative-opening bs f t))
+pub text-relative : (bs : Bytes) (f : Found) → read limits bs ≡ ok f → isAbsolute (f .opening) ≡ false → textCall limits bs ≡ refused BASE 0
+unfolding textCall given _>>=_
+text-relative bs f e t = rw (read-absolute limits bs f e, relative-opening bs f t)
 
 -- of an absolute input
 module _ (bs : Bytes) (f : Found) (h : Octets bs) (e : read limits bs ≡ ok f) (t : isAbsolute (f .opening) ≡ true) where
@@ -81,8 +81,8 @@ module _ (bs : Bytes) (f : Found) (h : Octets bs) (e : read limits bs ≡ ok f) 
   read-says = read-absolute limits bs f e ∙ ap (λ (o : Option Cri). given o BASE 0) says
 
   -- the text is written
-  pub text-written : textCall limits bs ≡ write (textAt bs f)
-  text-written = text-ruled limits bs (ok cri-said) read-says ∙ ap write (sym (pieces-text bs f cri-said says))
+  pub text-written : textCall limits bs ≡ ok (textAt bs f)
+  text-written = text-of limits bs cri-said read-says ∙ ap ok (sym (pieces-text bs f cri-said says))
 
   -- what is known of the positions
   pub prints : Prints bs f

@@ -5,16 +5,16 @@ ghost use lib.ListN.{length};
 ghost use lib.Dec.{leb};
 ghost use Rattle.rules.specs.Model.{limits};
 ghost use Rattle.rules.specs.Meaning.{saidOpening};
-ghost use Rattle.rules.specs.Calls.{write, outcome, after, textCall};
+ghost use Rattle.rules.specs.Result.{ok};
+ghost use Rattle.rules.specs.Calls.{outcome, after, textCall};
 ghost use Rattle.put.specs.Wrote.{Wrote};
 ghost use Rattle.reader.specs.Answers.{openingOf, foundOf};
-ghost use Rattle.outcomes.specs.Answers.{doneIs};
+ghost use Rattle.outcomes.specs.Answers.{outcomeIs};
 ghost use Rattle.uri_parts.specs.Pieces.{Short};
 ghost use Rattle.uri.specs.Printed.{originPiece, textAt, OpeningPrints, Prints};
 use numbers::BASE;
-use numbers::DONE;
 use numbers::ROOM;
-use outcomes::Done;
+use outcomes::Outcome;
 use put::put_bytes;
 use reader::Answer;
 use reader::Found;
@@ -117,33 +117,30 @@ fn has_room(s: &[u8], found: Found, size: usize) -> bool
 }
 
 // The text of an absolute reference; 10 where the room is shorter.
-fn print(s: &[u8], found: Found, room: &mut [u8]) -> Done
+fn print(s: &[u8], found: Found, room: &mut [u8]) -> Outcome
     requires { ⌜ Prints (now s) (foundOf found) ⌝ }
-    ensures { λ r. ⌜ doneIs r ≡ outcome (write (textAt (now (s .entry)) (foundOf found))) (length (now (room .entry))) ⌝ }
-    ensures { λ _. ⌜ now (room .exit) ≡ after (write (textAt (now (s .entry)) (foundOf found))) (now (room .entry)) ⌝ }
+    ensures { λ r. ⌜ outcomeIs r ≡ outcome (ok (textAt (now (s .entry)) (foundOf found))) (length (now (room .entry))) ⌝ }
+    ensures { λ _. ⌜ now (room .exit) ≡ after (ok (textAt (now (s .entry)) (foundOf found))) (now (room .entry)) ⌝ }
 {
     if has_room(s, found, room.len()) {
-        return Done {
-            number: DONE,
-            length: put_text(room, s, found),
-        };
+        return Outcome::Written(put_text(room, s, found));
     }
-    outcomes::refused(ROOM)
+    outcomes::refused(ROOM, 0)
 }
 
 // The answer, and the URI text in the room.
-pub fn uri_text(s: &[u8], room: &mut [u8]) -> Done
-    ensures { λ r. ⌜ doneIs r ≡ outcome (textCall limits (now (s .entry))) (length (now (room .entry))) ⌝ }
+pub fn uri_text(s: &[u8], room: &mut [u8]) -> Outcome
+    ensures { λ r. ⌜ outcomeIs r ≡ outcome (textCall limits (now (s .entry))) (length (now (room .entry))) ⌝ }
     ensures { λ _. ⌜ now (room .exit) ≡ after (textCall limits (now (s .entry))) (now (room .entry)) ⌝ }
 {
     match reader::read(s) {
-        Answer::Refused(k, _) => outcomes::refused(k),
+        Answer::Refused(refusal) => Outcome::Refused(refusal),
         Answer::Is(found) => {
             let opening = found.opening;
             if absolutes::is_absolute(opening) {
                 print(s, found, room)
             } else {
-                outcomes::refused(BASE)
+                outcomes::refused(BASE, 0)
             }
         }
     }

@@ -1,4 +1,4 @@
 mod Added
 mod AddedItems
 mod AddedTexts
-mod Rulings
+mod CallCases

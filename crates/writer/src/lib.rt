@@ -16,7 +16,7 @@ ghost use Rattle.rules.specs.Calls.{outcome, after, writeCall};
 ghost use Rattle.cbor.specs.Heads.{kindIs, spanIs};
 ghost use Rattle.cbor.specs.declared.Span as Code;
 ghost use Rattle.reader.specs.Answers.{portOf};
-ghost use Rattle.outcomes.specs.Answers.{doneIs};
+ghost use Rattle.outcomes.specs.Answers.{outcomeIs};
 ghost use Rattle.components.specs.Content.{spansOf, schemeOf, authorityOf, openingOf, textsOf, fragmentOf, componentsOf};
 ghost use Rattle.writer.specs.Added.{Added};
 ghost use Rattle.writer.specs.AddedItems.{Few, AuthorityMay, OpeningMay, TailMay, May, saidBy, tailOf, stringItem, textItems, authorityItems, discardItems, openingItems, fragmentItems};
@@ -33,7 +33,7 @@ use numbers::LABELS;
 use numbers::LIMIT;
 use numbers::PARAMETERS;
 use numbers::SEGMENTS;
-use outcomes::Done;
+use outcomes::Outcome;
 use put::put_part;
 use reader::Answer;
 use reader::Port;
@@ -413,18 +413,18 @@ fn add_reference(out: &mut Encoding, lent: &[u8], c: Components) -> usize
 }
 
 // The answer, and the encoding in the room.
-pub fn write(c: Components, lent: &[u8], room: &mut [u8]) -> Done
-    ensures { λ r. ⌜ doneIs r ≡ outcome (writeCall limits (componentsOf c) (now (lent .entry))) (length (now (room .entry))) ⌝ }
+pub fn write(c: Components, lent: &[u8], room: &mut [u8]) -> Outcome
+    ensures { λ r. ⌜ outcomeIs r ≡ outcome (writeCall limits (componentsOf c) (now (lent .entry))) (length (now (room .entry))) ⌝ }
     ensures { λ _. ⌜ now (room .exit) ≡ after (writeCall limits (componentsOf c) (now (lent .entry))) (now (room .entry)) ⌝ }
 {
     let mut made = [0u8; BYTES];
     let n = add_reference(&mut made, lent, c);
     if BYTES < n {
-        return outcomes::refused(LIMIT);
+        return outcomes::refused(LIMIT, 0);
     }
     let encoding = &made[..n];
     match reader::read(encoding) {
-        Answer::Refused(k, _) => outcomes::refused(k),
+        Answer::Refused(refusal) => outcomes::refused(refusal.number, 0),
         Answer::Is(_) => outcomes::copied(encoding, room),
     }
 }

@@ -10,7 +10,9 @@ use Rattle.absolutes.proofs.read_base.Tie as tie
 
 returns : tie.Need-returns
 unfolding readBase
-returns c = bind-refused _ _ _ _ (ap asBase (ap answerIs (sym (c .before .place .given .1)) ∙ c .before .before .before .read .ensures))
+returns c =
+    let m = c .before .before in
+    c .refused .ensures ∙ bind-refused _ _ _ _ (ap asBase (ap answerIs (sym (m .refusal .given .1)) ∙ m .before .before .read .ensures))
 
 returns-2 : tie.Need-returns-2
 unfolding readBase
@@ -21,8 +23,9 @@ returns-2 c =
 returns-3 : tie.Need-returns-3
 unfolding readBase
 returns-3 c =
-    let m = c .before .before .before in
-    need-no _ _ _ _ (sym (c .before .is-absolute .ensures) ∙ c .if1 .left) ∙ bind-ok _ _ _ (ap asBase (ap answerIs (sym (m .found .given .1)) ∙ m .before .before .read .ensures))
+    let i = c .before in
+    let m = i .before .before .before in
+    c .refused2 .ensures ∙ need-no _ _ _ _ (sym (i .before .is-absolute .ensures) ∙ i .if1 .left) ∙ bind-ok _ _ _ (ap asBase (ap answerIs (sym (m .found .given .1)) ∙ m .before .before .read .ensures))
 
 pub read-base-spec : {M : Type 1} → statement M
 read-base-spec =
@@ -30,7 +33,9 @@ read-base-spec =
     (tie.spec
     (λ c κs. search needs)
     (λ c. search needs)
+    (λ c κs. search needs)
     (λ c. search needs)
+    (λ c κs. search needs)
     (λ c κs. search needs)
     returns
     returns-2

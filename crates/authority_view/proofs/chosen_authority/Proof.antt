@@ -27,14 +27,14 @@ chosen-item-requires c κs =
 
 returns : tie.Need-returns
 unfolding authorityView
-returns c = bind-refused _ _ _ _ (ap answerIs (sym (c .before .k .given .1)) ∙ c .before .before .before .read-base .ensures) ∙ base-then _ _ _
+returns c = bind-refused _ _ _ _ (ap answerIs (sym (c .before .refusal .given .1)) ∙ c .before .before .before .read-base .ensures) ∙ base-then _ _ _
 
 returns-2 : tie.Need-returns-2
 unfolding authorityView
 returns-2 c =
     let m = c .before .before .before in
     let n = m .before .before in
-    bind-refused _ _ _ _ (ap answerIs (sym (c .before .k2 .given .1)) ∙ m .read .ensures)
+    bind-refused _ _ _ _ (ap answerIs (sym (c .before .refusal2 .given .1)) ∙ m .read .ensures)
     ∙ bind-ok _ _ _ (ap answerIs (sym (n .b .given .1)) ∙ n .before .before .read-base .ensures)
     ∙ base-then _ _ _
 

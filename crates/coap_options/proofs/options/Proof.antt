@@ -3,11 +3,10 @@ use native.Mathlib.Omega.{arith}
 use mathlib.Core.Path.{sym, ap, _∙_}
 use denote.Ref.{now}
 use lib.ListN.{length}
-use Rattle.rules.specs.Calls.{Ruling, outcome, after}
 use Rattle.rules.proofs.Tools.{octets-of}
-use Rattle.outcomes.proofs.Answers.{right-refused}
+use Rattle.outcomes.proofs.Answers.{right-refused, right-as}
 use Rattle.reader.specs.Answers.{answerIs}
-use Rattle.coap_options.proofs.Rulings.{address-refused, input-refused, found-ruled, asks}
+use Rattle.coap_options.proofs.CallCases.{address-refused, input-refused, found-answered, asks}
 use borrow.Author.Needs.{needs}
 use Rattle.coap_options.proofs.options.Statement.{statement}
 use Rattle.coap_options.proofs.options.Tie as tie
@@ -24,15 +23,15 @@ options-of-found-requires c κs =
 
 returns : tie.Need-returns
 returns c =
-    let k′ = c .before .before in
-    let read′ = k′ .before .before in
+    let refusal′ = c .before in
+    let read′ = refusal′ .before .before in
     let if1′ = read′ .before in
     let is-address-length′ = if1′ .before in
     let start = is-address-length′ .before .before .before .before in
     let a = start .args in
     let t = sym (is-address-length′ .is-address-length .ensures) ∙ if1′ .if1 .taken in
-    let u = right-refused _ (input-refused (now (a .s)) (now (a .address)) (a .port) t _ _ (sym (read′ .read .ensures) ∙ ap answerIs (k′ .k .given .1))) in
-    (c .refused .ensures ∙ u .answered, u .holds)
+    let u = right-refused _ _ (input-refused (now (a .s)) (now (a .address)) (a .port) t _ _ (sym (read′ .read .ensures) ∙ ap answerIs (refusal′ .refusal .given .1))) in
+    (u .answered, u .holds)
 
 returns-2 : tie.Need-returns-2
 returns-2 c =
@@ -45,8 +44,8 @@ returns-2 c =
     let a = start .args in
     let t = sym (is-address-length′ .is-address-length .ensures) ∙ if1′ .if1 .taken in
     let e = sym (read′ .read .ensures) ∙ ap answerIs (found′ .found .given .1) in
-    let u = sym (found-ruled (now (a .s)) (now (a .address)) (a .port) t _ e) in
-    (options-of-found′ .options-of-found .ensures .0 ∙ ap (λ (r : Ruling). outcome r (length (now (a .room)))) u, options-of-found′ .options-of-found .ensures .1 ∙ ap (λ (r : Ruling). after r (now (a .room))) u)
+    let u = sym (found-answered (now (a .s)) (now (a .address)) (a .port) t _ e) in
+    right-as _ u (options-of-found′ .options-of-found .ensures)
 
 returns-3 : tie.Need-returns-3
 returns-3 c =
@@ -54,8 +53,8 @@ returns-3 c =
     let is-address-length′ = if1′ .before in
     let start = is-address-length′ .before .before .before .before in
     let a = start .args in
-    let u = right-refused _ (address-refused (now (a .s)) (now (a .address)) (a .port) (sym (is-address-length′ .is-address-length .ensures) ∙ if1′ .if1 .left)) in
-    (c .refused2 .ensures ∙ u .answered, u .holds)
+    let u = right-refused _ _ (address-refused (now (a .s)) (now (a .address)) (a .port) (sym (is-address-length′ .is-address-length .ensures) ∙ if1′ .if1 .left)) in
+    (c .refused .ensures ∙ u .answered, u .holds)
 
 pub options-spec : {M : Type 1} → statement M
 options-spec =
@@ -64,7 +63,6 @@ options-spec =
     (λ c κs. search needs)
     (λ c κs. search needs)
     (λ c. search needs)
-    (λ c κs. search needs)
     (λ c. search needs)
     options-of-found-requires
     returns

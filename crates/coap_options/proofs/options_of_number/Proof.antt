@@ -4,16 +4,15 @@ use native.Mathlib.Omega.{arith}
 use mathlib.Core.Path.{sym, ap, _∙_}
 use mathlib.Core.Option.{Option·getD}
 use denote.Ref.{now}
-use lib.ListN.{length}
 use Rattle.rules.specs.Bytes.{Bytes}
-use Rattle.rules.specs.Calls.{Ruling, write, outcome, after}
+use Rattle.rules.specs.Result.{ok}
 use Rattle.rules.proofs.OptionsBack.{port-most}
-use Rattle.outcomes.proofs.Answers.{right-refused}
+use Rattle.outcomes.proofs.Answers.{right-refused, right-as}
 use Rattle.reader.specs.Answers.{slotOf, hostOf, portOf}
 use Rattle.schemes.specs.Schemes.{defaultIs}
 use Rattle.schemes.proofs.Table.{default-most}
 use Rattle.coap_options.specs.Requests.{optionsAt}
-use Rattle.coap_options.proofs.Rulings.{default-none, default-fragment, default-some}
+use Rattle.coap_options.proofs.CallCases.{default-none, default-fragment, default-some}
 use borrow.Author.Needs.{needs}
 use Rattle.coap_options.proofs.options_of_number.Statement.{statement}
 use Rattle.coap_options.proofs.options_of_number.Tie as tie
@@ -35,7 +34,7 @@ returns c =
     let s = default-port′ .before .before .before .before in
     let a = s .args in
     let w : ℕ → Bytes = λ d. optionsAt (now (a .s)) (hostOf (a .authority .host)) (Option·getD (portOf (a .authority .port)) d) (slotOf (a .found .path)) (slotOf (a .found .query)) (now (a .to-address)) (a .to-port) in
-    let u = right-refused _ (default-none _ w (sym (default-port′ .default-port .ensures) ∙ ap defaultIs (enum-told′ .enum-told .given .1))) in
+    let u = right-refused _ _ (default-none _ w (sym (default-port′ .default-port .ensures) ∙ ap defaultIs (enum-told′ .enum-told .given .1))) in
     (c .refused .ensures ∙ u .answered, u .holds)
 
 returns-2 : tie.Need-returns-2
@@ -46,7 +45,7 @@ returns-2 c =
     let s = default-port′ .before .before .before .before in
     let a = s .args in
     let w : ℕ → Bytes = λ d. optionsAt (now (a .s)) (hostOf (a .authority .host)) (Option·getD (portOf (a .authority .port)) d) (slotOf (a .found .path)) (slotOf (a .found .query)) (now (a .to-address)) (a .to-port) in
-    let u = right-refused _ (default-fragment _ w (sym (default-port′ .default-port .ensures) ∙ ap defaultIs (default′ .default .given .1)) (ap slotOf (enum-told2′ .enum-told2 .given .1))) in
+    let u = right-refused _ _ (default-fragment _ w (sym (default-port′ .default-port .ensures) ∙ ap defaultIs (default′ .default .given .1)) (ap slotOf (enum-told2′ .enum-told2 .given .1))) in
     (c .refused2 .ensures ∙ u .answered, u .holds)
 
 returns-3 : tie.Need-returns-3
@@ -59,8 +58,8 @@ returns-3 c =
     let s = default-port′ .before .before .before .before in
     let a = s .args in
     let w : ℕ → Bytes = λ d. optionsAt (now (a .s)) (hostOf (a .authority .host)) (Option·getD (portOf (a .authority .port)) d) (slotOf (a .found .path)) (slotOf (a .found .query)) (now (a .to-address)) (a .to-port) in
-    let u = ap (λ (p : ℕ). write (optionsAt (now (a .s)) (hostOf (a .authority .host)) p (slotOf (a .found .path)) (slotOf (a .found .query)) (now (a .to-address)) (a .to-port))) (port-or′ .port-or .ensures) ∙ sym (default-some _ w (sym (default-port′ .default-port .ensures) ∙ ap defaultIs (default′ .default .given .1)) (ap slotOf (enum-told3′ .enum-told3 .given .1))) in
-    (requested′ .requested .ensures .0 ∙ ap (λ (r : Ruling). outcome r (length (now (a .room)))) u, requested′ .requested .ensures .1 ∙ ap (λ (r : Ruling). after r (now (a .room))) u)
+    let u = ap (λ (p : ℕ). ok (optionsAt (now (a .s)) (hostOf (a .authority .host)) p (slotOf (a .found .path)) (slotOf (a .found .query)) (now (a .to-address)) (a .to-port))) (port-or′ .port-or .ensures) ∙ sym (default-some _ w (sym (default-port′ .default-port .ensures) ∙ ap defaultIs (default′ .default .given .1)) (ap slotOf (enum-told3′ .enum-told3 .given .1))) in
+    right-as _ u (requested′ .requested .ensures)
 
 pub options-of-number-spec : {M : Type 1} → statement M
 options-of-number-spec =

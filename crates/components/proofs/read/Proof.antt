@@ -7,6 +7,7 @@ use Rattle.rules.proofs.Standing.{stands}
 use Rattle.rules.proofs.Steps.{ok-at}
 use Rattle.rules.proofs.Tools.{octets-of}
 use Rattle.rules.specs.Model.{limits}
+use Rattle.refusals.specs.declared.Verdict.the-variants as VerdictV
 use Rattle.reader.specs.Answers.{answerIs}
 use Rattle.components.specs.Layout.{readingLaid}
 use borrow.Author.Needs.{needs}
@@ -22,15 +23,14 @@ components-of-requires c κs =
 returns : tie.Need-returns
 returns c =
     let m = c .before .before .before .before in
-    (λ i. record { number = 0; components = c .components-of .ensures i })
+    (λ i. record { verdict = VerdictV.Accepted; components = c .components-of .ensures i })
     ∙ ap readingLaid (call-accepted limits (now (m .before .before .args .s)) _ (sym (m .read .ensures) ∙ ap answerIs (c .before .before .found .given .1)))
 
 returns-2 : tie.Need-returns-2
 returns-2 c =
     let m = c .before .before .before .before in
-    let n = c .before .before .n .given .0 .0 in
-    (λ i. record { number = n; components = c .no-components .ensures i })
-    ∙ ap readingLaid (call-refused limits (now (m .before .before .args .s)) n _ (sym (m .read .ensures) ∙ ap answerIs (c .before .before .n .given .1)))
+    (λ i. record { verdict = VerdictV.Refused (c .before .before .refusal .given .0 .0); components = c .no-components .ensures i })
+    ∙ ap readingLaid (call-refused limits (now (m .before .before .args .s)) _ _ (sym (m .read .ensures) ∙ ap answerIs (c .before .before .refusal .given .1)))
 
 pub read-spec : {M : Type 1} → statement M
 read-spec =

@@ -30,7 +30,7 @@ returns-3 c =
     let p = c .before .before .before in
     let l = p .before .before .before in
     let a = l .before .before .args in
-    bind-refused _ _ _ _ (ap namesIs (sym (c .before .k .given .1)) ∙ p .port-at .ensures)
+    bind-refused _ _ _ _ (ap namesIs (sym (c .before .refusal .given .1)) ∙ p .port-at .ensures)
     ∙ bind-ok _ _ _ (need-yes _ _ _ _ (le-leb (a .next + a .n) (length (now (a .s))) (omega arith)))
     ∙ need-yes _ _ _ _ (sym (l .is-address-length .ensures) ∙ not-false _ (p .before .before .if1 .left))
 

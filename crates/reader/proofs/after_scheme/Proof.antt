@@ -17,7 +17,7 @@ returns-2 : tie.Need-returns-2
 unfolding afterScheme
 returns-2 c =
     let t = c .before .before .before in
-    bind-refused _ _ _ _ (ap authorityIs (sym (c .before .k .given .1)) ∙ t .authority-at .ensures)
+    bind-refused _ _ _ _ (ap authorityIs (sym (c .before .refusal .given .1)) ∙ t .authority-at .ensures)
     ∙ need-yes _ _ _ _ (le-leb 2 (t .before .before .before .args .count) (omega arith))
 
 returns-3 : tie.Need-returns-3

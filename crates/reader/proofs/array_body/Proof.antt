@@ -23,7 +23,7 @@ unfolding arrayBody
 returns-3 c =
     let t = c .before .before .before in
     let a = t .before .before .before .before .args in
-    bind-refused _ _ _ _ (ap rowEndIs (sym (c .before .k .given .1)) ∙ t .row-at .ensures)
+    bind-refused _ _ _ _ (ap rowEndIs (sym (c .before .refusal .given .1)) ∙ t .row-at .ensures)
     ∙ need-yes _ _ _ _ (is-within (a .low) (a .high) (a .n) (omega arith) (omega arith))
 
 returns-4 : tie.Need-returns-4

@@ -15,7 +15,7 @@ unfolding readAuthority
 returns c =
     let h = c .before .before .before .before in
     need-no _ _ _ _ (under 1 9 (c .before .before .items .given .0 .0) (c .if1 .taken))
-    ∙ bind-ok _ _ _ (ap (headIs _) (sym (c .before .before .items .given .1)) ∙ h .array-head .ensures)
+    ∙ bind-ok _ _ _ (ap headIs (sym (c .before .before .items .given .1)) ∙ h .array-head .ensures)
 
 returns-2 : tie.Need-returns-2
 unfolding readAuthority
@@ -23,13 +23,13 @@ returns-2 c =
     let g = c .before .before .before in
     let h = g .before .before in
     need-no _ _ _ _ (over 1 9 (g .items .given .0 .0) (c .if2 .taken))
-    ∙ bind-ok _ _ _ (ap (headIs _) (sym (g .items .given .1)) ∙ h .array-head .ensures)
+    ∙ bind-ok _ _ _ (ap headIs (sym (g .items .given .1)) ∙ h .array-head .ensures)
 
 returns-3 : tie.Need-returns-3
 unfolding readAuthority
 returns-3 c =
     let h = c .before .before .before in
-    bind-refused _ _ _ _ (ap (headIs _) (sym (c .before .n .given .1)) ∙ h .array-head .ensures)
+    bind-refused _ _ _ _ (ap headIs (sym (c .before .refusal .given .1)) ∙ h .array-head .ensures)
 
 returns-4 : tie.Need-returns-4
 unfolding readAuthority readHost
@@ -38,7 +38,7 @@ returns-4 c =
     let h = g .before .before in
     c .host-at .ensures
     ∙ need-yes _ _ _ _ (is-within 1 9 (g .items .given .0 .0) (omega arith) (omega arith))
-    ∙ bind-ok _ _ _ (ap (headIs _) (sym (g .items .given .1)) ∙ h .array-head .ensures)
+    ∙ bind-ok _ _ _ (ap headIs (sym (g .items .given .1)) ∙ h .array-head .ensures)
 
 pub authority-at-spec : {M : Type 1} → statement M
 authority-at-spec =

@@ -10,7 +10,7 @@ returns : tie.Need-returns
 unfolding readItems
 returns c =
     let o = c .before .before .before in
-    bind-refused _ _ _ _ (ap openedIs (sym (c .before .k .given .1)) ∙ o .opening-at .ensures)
+    bind-refused _ _ _ _ (ap openedIs (sym (c .before .refusal .given .1)) ∙ o .opening-at .ensures)
 
 returns-2 : tie.Need-returns-2
 unfolding readItems

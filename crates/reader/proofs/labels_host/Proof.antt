@@ -55,7 +55,7 @@ returns-3 c =
     let m = c .before .before .before in
     let f = m .before .before .before .before in
     let at = f .before .before .args .at in
-    bind-refused _ _ _ _ (ap namesIs (sym (c .before .k2 .given .1)) ∙ m .names-at .ensures)
+    bind-refused _ _ _ _ (ap namesIs (sym (c .before .refusal .given .1)) ∙ m .names-at .ensures)
     ∙ bind-ok _ _ _ (ap (stepIs at) (sym (m .before .before .after .given .1)) ∙ f .label-body .ensures at)
 
 returns-4 : tie.Need-returns-4

@@ -17,7 +17,7 @@ returns-2 : tie.Need-returns-2
 unfolding portBody
 returns-2 c =
     let t = c .before .before .before in
-    bind-refused _ _ _ _ (ap rowEndIs (sym (c .before .k .given .1)) ∙ t .nothing-at .ensures)
+    bind-refused _ _ _ _ (ap rowEndIs (sym (c .before .refusal .given .1)) ∙ t .nothing-at .ensures)
     ∙ need-yes _ _ _ _ (le-leb (t .before .before .before .args .n) 65535 (omega arith))
 
 returns-3 : tie.Need-returns-3

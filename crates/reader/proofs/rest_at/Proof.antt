@@ -12,7 +12,7 @@ returns : tie.Need-returns
 unfolding readRest
 returns c =
     let p = c .before .before .before in
-    bind-refused _ _ _ _ (ap slotIs (sym (c .before .k .given .1)) ∙ p .array-at .ensures)
+    bind-refused _ _ _ _ (ap slotIs (sym (c .before .refusal .given .1)) ∙ p .array-at .ensures)
 
 returns-2 : tie.Need-returns-2
 unfolding readRest
@@ -20,7 +20,7 @@ returns-2 c =
     let q = c .before .before .before in
     let l = q .before in
     let p = l .before .before .before .before in
-    bind-refused _ _ _ _ (ap slotIs (sym (c .before .k2 .given .1)) ∙ q .array-at2 .ensures ∙ ap (readArray parameter 1 16 _ _) (l .minus .ensures))
+    bind-refused _ _ _ _ (ap slotIs (sym (c .before .refusal2 .given .1)) ∙ q .array-at2 .ensures ∙ ap (readArray parameter 1 16 _ _) (l .minus .ensures))
     ∙ bind-ok _ _ _ (ap slotIs (sym (l .before .before .path .given .1)) ∙ p .array-at .ensures)
 
 returns-3 : tie.Need-returns-3
@@ -31,7 +31,7 @@ returns-3 c =
     let q = m .before .before .before .before in
     let l = q .before in
     let p = l .before .before .before .before in
-    bind-refused _ _ _ _ (ap slotIs (sym (c .before .k3 .given .1)) ∙ f .fragment-at .ensures ∙ ap (readFragment _ _) (m .minus2 .ensures))
+    bind-refused _ _ _ _ (ap slotIs (sym (c .before .refusal3 .given .1)) ∙ f .fragment-at .ensures ∙ ap (readFragment _ _) (m .minus2 .ensures))
     ∙ bind-ok _ _ _ (ap slotIs (sym (m .before .before .query .given .1)) ∙ q .array-at2 .ensures ∙ ap (readArray parameter 1 16 _ _) (l .minus .ensures))
     ∙ bind-ok _ _ _ (ap slotIs (sym (l .before .before .path .given .1)) ∙ p .array-at .ensures)
 

@@ -15,7 +15,7 @@ returns c =
     let base = now (s .args .base) in
     let ref = now (s .args .reference) in
     let p = s .args .p in
-    let u = right-refused 9 (over-segments base ref p (c .before .if1 .taken)) in
+    let u = right-refused 9 0 (over-segments base ref p (c .before .if1 .taken)) in
     (c .refused .ensures ∙ u .answered, u .holds)
 
 parts-length-requires : tie.Need-parts-length-requires
@@ -27,7 +27,7 @@ returns-2 c =
     let base = now (s .args .base) in
     let ref = now (s .args .reference) in
     let p = s .args .p in
-    let u = right-refused 9 (over-bytes base ref p (omega (arith, c .before .before .parts-length .ensures base ref (s .pre .1), c .before .if2 .taken))) in
+    let u = right-refused 9 0 (over-bytes base ref p (omega (arith, c .before .before .parts-length .ensures base ref (s .pre .1), c .before .if2 .taken))) in
     (c .refused2 .ensures ∙ u .answered, u .holds)
 
 returns-3 : tie.Need-returns-3

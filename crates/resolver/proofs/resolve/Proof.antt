@@ -2,16 +2,14 @@
 use native.Mathlib.Omega.{arith}
 use mathlib.Core.Path.{sym, ap, _∙_}
 use denote.Ref.{now}
-use lib.ListN.{length}
 use Rattle.rules.specs.Model.{limits}
-use Rattle.rules.specs.Calls.{Ruling, outcome, after}
 use Rattle.rules.proofs.Tools.{octets-of}
 use Rattle.rules.proofs.Steps.{ok-at}
 use Rattle.rules.proofs.Standing.{read-size}
 use Rattle.rules.proofs.Laid.{laid}
 use Rattle.reader.specs.Answers.{answerIs}
-use Rattle.outcomes.proofs.Answers.{right-refused}
-use Rattle.resolver.proofs.Encoded.{parts-inside, parts-small, ruled-parts, base-says, base-refused, reference-refused, read-reference}
+use Rattle.outcomes.proofs.Answers.{right-refused, right-as}
+use Rattle.resolver.proofs.Encoded.{parts-inside, parts-small, call-parts, base-says, base-refused, reference-refused, read-reference}
 use borrow.Author.Needs.{needs}
 use Rattle.resolver.proofs.resolve.Statement.{statement}
 use Rattle.resolver.proofs.resolve.Tie as tie
@@ -39,20 +37,20 @@ put-result-requires c κs =
 
 returns : tie.Need-returns
 returns c =
-    let s = c .before .before .before .before .before .before .before .before in
+    let s = c .before .before .before .before .before .before .before in
     let base = now (s .args .base) in
     let ref = now (s .args .reference) in
-    let u = right-refused _ (base-refused base ref _ _ (sym (c .before .before .before .before .read-base .ensures) ∙ ap answerIs (c .before .before .k .given .1))) in
-    (c .refused .ensures ∙ u .answered, u .holds)
+    let u = right-refused _ _ (base-refused base ref _ _ (sym (c .before .before .before .read-base .ensures) ∙ ap answerIs (c .before .refusal .given .1))) in
+    (u .answered, u .holds)
 
 returns-2 : tie.Need-returns-2
 returns-2 c =
-    let s = c .before .before .before .before .before .before .before .before .before .before .before .before in
+    let s = c .before .before .before .before .before .before .before .before .before .before .before in
     let base = now (s .args .base) in
     let ref = now (s .args .reference) in
-    let d = base-says base _ (sym (c .before .before .before .before .before .before .before .before .read-base .ensures) ∙ ap answerIs (c .before .before .before .before .before .before .b .given .1)) in
-    let u = right-refused _ (reference-refused base ref _ _ _ (d .absolute) (sym (c .before .before .before .before .read .ensures) ∙ ap answerIs (c .before .before .k2 .given .1))) in
-    (c .refused2 .ensures ∙ u .answered, u .holds)
+    let d = base-says base _ (sym (c .before .before .before .before .before .before .before .read-base .ensures) ∙ ap answerIs (c .before .before .before .before .before .b .given .1)) in
+    let u = right-refused _ _ (reference-refused base ref _ _ _ (d .absolute) (sym (c .before .before .before .read .ensures) ∙ ap answerIs (c .before .own .given .1))) in
+    (u .answered, u .holds)
 
 returns-3 : tie.Need-returns-3
 returns-3 c =
@@ -61,11 +59,8 @@ returns-3 c =
     let ref = now (s .args .reference) in
     let d = base-says base _ (sym (c .before .before .before .before .before .before .before .before .before .before .before .before .read-base .ensures) ∙ ap answerIs (c .before .before .before .before .before .before .before .before .before .before .b .given .1)) in
     let e = sym (c .before .before .before .before .before .before .before .before .read .ensures) ∙ ap answerIs (c .before .before .before .before .before .before .r .given .1) in
-    let u = sym (ruled-parts base ref _ _ _ (d .absolute) (read-reference ref _ e) (c .before .before .before .before .parts-of .ensures (d .cri) (d .says))) in
-    let room = now (s .args .room) in (
-      c .before .before .put-result .ensures .0 ∙ ap (λ (r : Ruling). outcome r (length room)) u,
-      c .before .before .put-result .ensures .1 ∙ ap (λ (r : Ruling). after r room) u,
-    )
+    let u = sym (call-parts base ref _ _ _ (d .absolute) (read-reference ref _ e) (c .before .before .before .before .parts-of .ensures (d .cri) (d .says))) in
+    right-as _ u (c .before .before .put-result .ensures)
 
 pub resolve-spec : {M : Type 1} → statement M
 resolve-spec =
@@ -73,11 +68,9 @@ resolve-spec =
     (tie.spec
     (λ c κs. search needs)
     (λ c. search needs)
-    (λ c κs. search needs)
     (λ c. search needs)
     (λ c κs. search needs)
     (λ c. search needs)
-    (λ c κs. search needs)
     (λ c. search needs)
     parts-of-requires
     put-result-requires

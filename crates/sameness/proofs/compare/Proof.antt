@@ -4,7 +4,7 @@ use denote.Ref.{now}
 use Rattle.rules.proofs.Tools.{octets-of}
 use Rattle.rules.specs.Model.{limits}
 use Rattle.rules.specs.Calls.{textCall}
-use Rattle.outcomes.specs.Answers.{doneIs}
+use Rattle.outcomes.specs.Answers.{outcomeIs}
 use Rattle.outcomes.proofs.Answers.{Right}
 use Rattle.sameness.specs.declared.Compared.{Compared}
 use Rattle.sameness.proofs.Answers.{length-inside, both-printed, both-answered}
@@ -33,8 +33,8 @@ returns c =
     let r : Compared = record { first = u .uri-text .result; second = v .uri-text2 .result; equal = c .wrote-same .result } in
     let ha = octets-of a (λ i. omega (arith, k .before .shared-slice-known .given i)) in
     let hb = octets-of b (λ i. omega (arith, k .shared-slice-known2 .given i)) in
-    let p : Right (textCall limits a) x (doneIs (r .first)) _ = record { answered = u .uri-text .ensures .0; holds = u .uri-text .ensures .1 } in
-    let q : Right (textCall limits b) y (doneIs (r .second)) _ = record { answered = v .uri-text2 .ensures .0; holds = v .uri-text2 .ensures .1 } in
+    let p : Right (textCall limits a) x (outcomeIs (r .first)) _ = record { answered = u .uri-text .ensures .0; holds = u .uri-text .ensures .1 } in
+    let q : Right (textCall limits b) y (outcomeIs (r .second)) _ = record { answered = v .uri-text2 .ensures .0; holds = v .uri-text2 .ensures .1 } in
     let w = c .wrote-same .ensures in
     (both-answered a b x y _ _ r ha hb p q w, (both-printed a b x y _ _ r ha hb p q w, (p .holds, q .holds)))
 

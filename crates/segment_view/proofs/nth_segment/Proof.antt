@@ -25,7 +25,7 @@ returns c = c .path-segment .ensures ∙ bind-ok _ _ _ (ap answerIs (sym (c .bef
 
 returns-2 : tie.Need-returns-2
 unfolding segmentView
-returns-2 c = bind-refused _ _ _ _ (ap answerIs (sym (c .before .k .given .1)) ∙ c .before .before .before .read .ensures)
+returns-2 c = bind-refused _ _ _ _ (ap answerIs (sym (c .before .refusal .given .1)) ∙ c .before .before .before .read .ensures)
 
 pub nth-segment-spec : {M : Type 1} → statement M
 nth-segment-spec =

@@ -6,11 +6,11 @@ use lib.ListN.{length}
 use lib.Seq.{length-take-le}
 use Rattle.rules.specs.Model.{limits}
 use Rattle.rules.specs.Reader.{read}
-use Rattle.rules.specs.Calls.{Ruling, write, outcome, after}
+use Rattle.rules.specs.Result.{ok}
 use Rattle.reader.specs.Answers.{answerIs}
 use Rattle.components.specs.Content.{componentsOf}
-use Rattle.outcomes.proofs.Answers.{right-refused}
-use Rattle.writer.proofs.Rulings.{ruled-refused, ruled-written, ruled-over, made, made-size}
+use Rattle.outcomes.proofs.Answers.{right-refused, right-as}
+use Rattle.writer.proofs.CallCases.{call-refused, call-written, call-over, made, made-size}
 use borrow.Author.Needs.{needs}
 use Rattle.writer.proofs.write.Statement.{statement}
 use Rattle.writer.proofs.write.Tie as tie
@@ -19,7 +19,7 @@ returns : tie.Need-returns
 returns c =
     let a = c .before .before .before .before .before .before .args in
     let p = c .before .before .add-reference .ensures in
-    let u = right-refused 4 (ruled-over (now (a .lent)) (componentsOf (a .c)) (λ g h. omega (arith, c .before .if1 .taken, p .place g (omega (arith, h))))) in
+    let u = right-refused 4 0 (call-over (now (a .lent)) (componentsOf (a .c)) (λ g h. omega (arith, c .before .if1 .taken, p .place g (omega (arith, h))))) in
     (c .refused .ensures ∙ u .answered, u .holds)
 
 array-share-prefix-made : tie.Need-array-share-prefix-made
@@ -34,8 +34,8 @@ returns-2 c =
     let p = c .before .before .before .before .before .before .before .add-reference .ensures in
     let h = c .before .before .before .before .before .before .if1 .left in
     let m = made (now (a .lent)) (componentsOf (a .c)) refl (omega (arith, h)) p in
-    let e = ap (read limits) (sym (m .1)) ∙ sym (c .before .before .before .before .read .ensures) ∙ ap answerIs (c .before .before .k .given .1) in
-    let u = right-refused _ (ruled-refused (now (a .lent)) (componentsOf (a .c)) _ _ (p .good (omega (arith, h))) e) in
+    let e = ap (read limits) (sym (m .1)) ∙ sym (c .before .before .before .before .read .ensures) ∙ ap answerIs (c .before .before .refusal .given .1) in
+    let u = right-refused _ 0 (call-refused (now (a .lent)) (componentsOf (a .c)) _ _ (p .good (omega (arith, h))) e) in
     (c .refused2 .ensures ∙ u .answered, u .holds)
 
 returns-3 : tie.Need-returns-3
@@ -45,10 +45,8 @@ returns-3 c =
     let h = c .before .before .before .before .before .before .before .before .if1 .left in
     let m = made (now (a .lent)) (componentsOf (a .c)) refl (omega (arith, h)) p in
     let e = ap (read limits) (sym (m .1)) ∙ sym (c .before .before .before .before .before .before .read .ensures) ∙ ap answerIs (c .before .before .before .before .enum-told .given .1) in
-    let u = ap write (m .1) ∙ sym (ruled-written (now (a .lent)) (componentsOf (a .c)) _ (p .good (omega (arith, h))) e) in (
-      c .before .before .copied .ensures .0 ∙ ap (λ (r : Ruling). outcome r (length (now (a .room)))) u,
-      c .before .before .copied .ensures .1 ∙ ap (λ (r : Ruling). after r (now (a .room))) u,
-    )
+    let u = ap ok (m .1) ∙ sym (call-written (now (a .lent)) (componentsOf (a .c)) _ (p .good (omega (arith, h))) e) in
+    right-as _ u (c .before .before .copied .ensures)
 
 pub write-spec : {M : Type 1} → statement M
 write-spec =

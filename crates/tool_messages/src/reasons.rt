@@ -1,9 +1,6 @@
-// What a refusal means, and which rules of docs/RULES.md it is.
-use crate::quotes::say;
-use output::Output;
-use output::add_byte;
-use output::add_pair;
-use output::flush;
+// What a refusal means, which rules of docs/RULES.md it is, and where in an argument it is.
+use crate::dumps::say_marked;
+use refusals::Refusal;
 
 fn say_to(fd: i32, text: &[u8]) {
     io::write_all(fd, text);
@@ -63,7 +60,7 @@ fn say_meaning(fd: i32, number: u8) {
 }
 
 // "refused with 4, LIMIT: .."
-pub fn say_refusal(fd: i32, number: u8) {
+pub fn say_reason(fd: i32, number: u8) {
     say_to(fd, b"refused with ");
     io::print_decimal(fd, number as u64);
     say_to(fd, b", ");
@@ -71,39 +68,23 @@ pub fn say_refusal(fd: i32, number: u8) {
     say_to(fd, b"\n");
 }
 
-// The first bytes, at most eight, in pairs.
-fn add_dump(out: &mut Output, s: &[u8]) -> usize {
-    let mut at = 0;
-    let mut i = 0;
-    while i < s.len() {
-        if i == 8 {
-            return at;
-        }
-        let next = add_byte(out, at, b' ');
-        at = add_pair(out, next, s[i]);
-        i += 1;
-    }
-    at
-}
-
-fn write_dump(out: &mut Output, s: &[u8]) {
-    let used = add_dump(out, s);
-    flush(out, used, libc::STDOUT_FILENO);
-}
-
-fn say_dump(s: &[u8]) {
-    let mut out = io::large_buffer();
-    write_dump(&mut out, s);
-}
-
-// Where the reader refused.
-pub fn say_place(s: &[u8], place: usize) {
-    say(b"place     byte ");
-    io::print_decimal(libc::STDOUT_FILENO, place as u64);
+// A place in an argument, and the bytes around it.
+fn say_place(fd: i32, s: &[u8], place: usize) {
+    say_to(fd, b"place     byte ");
+    io::print_decimal(fd, place as u64);
     if s.len() <= place {
-        return say(b", where the input has ended\n");
+        say_to(fd, b", where the input has ended");
     }
-    say(b":");
-    say_dump(&s[place..]);
-    say(b"\n");
+    say_to(fd, b"\n");
+    say_marked(fd, s, place);
+}
+
+// Which argument is refused, why and where. 1 to 7, the reader's numbers, have a place.
+pub fn say_refusal(fd: i32, argument: &[u8], s: &[u8], refusal: Refusal) {
+    say_to(fd, argument);
+    say_to(fd, b" is ");
+    say_reason(fd, refusal.number);
+    if refusal.number <= numbers::TAIL {
+        say_place(fd, s, refusal.place);
+    }
 }

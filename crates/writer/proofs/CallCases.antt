@@ -1,4 +1,4 @@
--- What the rules say of components, by what became of their encoding.
+-- What writing answers, by what became of the encoding.
 use Prim.Native.Nat.{ℕ, _≤_, _<_}
 use native.Mathlib.Omega.{arith}
 use mathlib.Core.Path.{_≡_, refl, sym, ap, _∙_}
@@ -12,8 +12,8 @@ use Rattle.rules.specs.Result.{refused, ok, need, _>>_, LIMIT}
 use Rattle.rules.specs.Model.{Components, mapParts, limits}
 use Rattle.rules.specs.Reader.{taken, Found, read}
 use Rattle.rules.specs.Encode.{encode}
-use Rattle.rules.specs.Writing.{counted, inside, allTexts, placeless, written}
-use Rattle.rules.specs.Calls.{refuse, write, ruling, writeCall}
+use Rattle.rules.specs.Writing.{counted, inside, allTexts, placeless}
+use Rattle.rules.specs.Calls.{writeCall}
 use Rattle.rules.proofs.Steps.{need-no}
 use Rattle.rules.proofs.Tools.{by-test}
 use Rattle.put.proofs.Wrote.{wrote-all}
@@ -29,20 +29,20 @@ module _ (lent : Bytes) (c : Components) where
   abbrev w : Bytes
   w = encode (mapParts (taken lent) c)
 
-  pub ruled-refused : (k j : ℕ) → May lent c → read limits w ≡ refused k j → writeCall limits c lent ≡ refuse k
-  unfolding writeCall written need _>>_
-  ruled-refused k j g e = rw (g .0, g .1, e)
+  pub call-refused : (k j : ℕ) → May lent c → read limits w ≡ refused k j → writeCall limits c lent ≡ refused k 0
+  unfolding writeCall need _>>_
+  call-refused k j g e = rw (g .0, g .1, e)
 
-  pub ruled-written : (f : Found) → May lent c → read limits w ≡ ok f → writeCall limits c lent ≡ write w
-  unfolding writeCall written need _>>_
-  ruled-written f g e = rw (g .0, g .1, e)
+  pub call-written : (f : Found) → May lent c → read limits w ≡ ok f → writeCall limits c lent ≡ ok w
+  unfolding writeCall need _>>_
+  call-written f g e = rw (g .0, g .1, e)
 
-  pub ruled-over : (May lent c → length w ≤ limits .bytes → ⊥) → writeCall limits c lent ≡ refuse LIMIT
-  unfolding writeCall written need _>>_
-  ruled-over never =
-      by-test (λ (t : Bool). ruling (need t LIMIT 0 >> (need (all (inside lent) (allTexts c)) LIMIT 0 >> (placeless (read limits w) >> ok w))) ≡ refuse LIMIT) (counted limits c)
-      (λ n. by-test (λ (t : Bool). ruling (need t LIMIT 0 >> (placeless (read limits w) >> ok w)) ≡ refuse LIMIT) (all (inside lent) (allTexts c))
-      (λ i. by-test (λ (t : Bool). leb (length w) (limits .bytes) ≡ t → ruling (placeless (read limits w) >> ok w) ≡ refuse LIMIT) (leb (length w) (limits .bytes))
+  pub call-over : (May lent c → length w ≤ limits .bytes → ⊥) → writeCall limits c lent ≡ refused LIMIT 0
+  unfolding writeCall need _>>_
+  call-over never =
+      by-test (λ (t : Bool). (need t LIMIT 0 >> (need (all (inside lent) (allTexts c)) LIMIT 0 >> (placeless (read limits w) >> ok w))) ≡ refused LIMIT 0) (counted limits c)
+      (λ n. by-test (λ (t : Bool). (need t LIMIT 0 >> (placeless (read limits w) >> ok w)) ≡ refused LIMIT 0) (all (inside lent) (allTexts c))
+      (λ i. by-test (λ (t : Bool). leb (length w) (limits .bytes) ≡ t → (placeless (read limits w) >> ok w) ≡ refused LIMIT 0) (leb (length w) (limits .bytes))
       (λ _ e. absurd (never (n, i) (leb-true (length w) (limits .bytes) e)))
       (λ _ e. rw (long-refused w (leb-false (length w) (limits .bytes) e))) refl)
       (λ _. refl))

@@ -1,4 +1,4 @@
--- What the call rules, by what was found; and what is known of the positions in an accepted input.
+-- What the call answers, by what was found; and what is known of the positions in an accepted input.
 use Prim.Native.Nat.{ℕ, _≤_}
 use native.Mathlib.Omega.{arith}
 use mathlib.Core.Path.{_≡_, refl, sym, ap, _∙_}
@@ -14,7 +14,7 @@ use Rattle.rules.specs.Reader.{contents, Slot, unset, set, HostAt, addressAt, l
 use Rattle.rules.specs.Meaning.{meaning, readReference, readAbsolute, saidTexts, saidText, saidHost, saidAuthority, saidOpening, said}
 use Rattle.rules.specs.Valid.{If, GoodTexts, GoodHost, GoodOpening}
 use Rattle.rules.specs.Options.{options, optionsFrom, coapScheme}
-use Rattle.rules.specs.Calls.{refuse, write, ruling, absent, requested, optionsCall}
+use Rattle.rules.specs.Calls.{absent, optionsCall}
 use Rattle.rules.specs.Standing.{HostStands, OpeningStands, TextsStand}
 use Rattle.rules.proofs.Tools.{each-map, within-low}
 use Rattle.rules.proofs.Steps.{ok-at, bind-ok}
@@ -26,82 +26,82 @@ use Rattle.rules.proofs.OptionsBack.{address-short, labels-short, good-short}
 use Rattle.addresses.proofs.AddressTexts.{address-at}
 use Rattle.schemes.specs.Schemes.{defaultPort}
 use Rattle.coap_values.specs.Values.{HostAsks, TextsAsk}
-use Rattle.coap_options.specs.Requests.{optionsAt, defaultRuling, numberRuling, openingRuling, AuthorityAsks, OpeningAsks, Asks}
+use Rattle.coap_options.specs.Requests.{optionsAt, defaultAnswer, numberAnswer, openingAnswer, AuthorityAsks, OpeningAsks, Asks}
 
--- ---- what the call rules
+-- ---- what the call answers
 
 module _ (bs toAddress : Bytes) (toPort : ℕ) where
-  pub address-refused : (eqb (length toAddress) 4 || eqb (length toAddress) 16) ≡ false → optionsCall limits bs toAddress toPort ≡ refuse DEST
-  unfolding optionsCall requested need _>>_
+  pub address-refused : (eqb (length toAddress) 4 || eqb (length toAddress) 16) ≡ false → optionsCall limits bs toAddress toPort ≡ refused DEST 0
+  unfolding optionsCall need _>>_
   address-refused e = rw e
 
   -- on a CRI
   abbrev asked : Cri → Res Bytes
   asked c = given (coapScheme (c .scheme)) COAP 0 >>= λ s. need (absent (c .fragment)) COAP 0 >> ok (optionsFrom 0 (options c s toAddress toPort))
 
-  address-taken : (eqb (length toAddress) 4 || eqb (length toAddress) 16) ≡ true → optionsCall limits bs toAddress toPort ≡ ruling (readAbsolute limits bs >>= asked)
-  unfolding optionsCall requested need _>>_
+  address-taken : (eqb (length toAddress) 4 || eqb (length toAddress) 16) ≡ true → optionsCall limits bs toAddress toPort ≡ (readAbsolute limits bs >>= asked)
+  unfolding optionsCall need _>>_
   address-taken e = rw e
 
-  pub input-refused : (eqb (length toAddress) 4 || eqb (length toAddress) 16) ≡ true → (n k : ℕ) → read limits bs ≡ refused n k → optionsCall limits bs toAddress toPort ≡ refuse n
+  pub input-refused : (eqb (length toAddress) 4 || eqb (length toAddress) 16) ≡ true → (n k : ℕ) → read limits bs ≡ refused n k → optionsCall limits bs toAddress toPort ≡ refused n k
   unfolding readAbsolute readReference _>>=_
   input-refused a n k e = address-taken a ∙ rw e
 
   -- whose scheme is a number, by its entry in the table
-  entry-ruled : (s : Scheme Bytes) (m : Option SchemeEntry) (a : AuthorityAt) (p q g : Slot) →
+  entry-answered : (s : Scheme Bytes) (m : Option SchemeEntry) (a : AuthorityAt) (p q g : Slot) →
       let c : Cri = record { scheme = s; authority = saidAuthority bs a; path = elements (saidTexts bs p); query = saidTexts bs q; fragment = saidText bs g } in
-      ruling (given m COAP 0 >>= λ s. need (absent (c .fragment)) COAP 0 >> ok (optionsFrom 0 (options c s toAddress toPort)))
-      ≡ defaultRuling (Option·map (λ (e : SchemeEntry). e .port) m) g (λ (d : ℕ). optionsAt bs (a .host) (Option·getD (a .port) d) p q toAddress toPort)
-  unfolding given need _>>=_ _>>_ options optionsAt defaultRuling
-  entry-ruled s none a p q g = refl
-  entry-ruled s (some e) a p q unset = refl
-  entry-ruled s (some e) a p q (set at n) = refl
+      (given m COAP 0 >>= λ s. need (absent (c .fragment)) COAP 0 >> ok (optionsFrom 0 (options c s toAddress toPort)))
+      ≡ defaultAnswer (Option·map (λ (e : SchemeEntry). e .port) m) g (λ (d : ℕ). optionsAt bs (a .host) (Option·getD (a .port) d) p q toAddress toPort)
+  unfolding given need _>>=_ _>>_ options optionsAt defaultAnswer
+  entry-answered s none a p q g = refl
+  entry-answered s (some e) a p q unset = refl
+  entry-answered s (some e) a p q (set at n) = refl
 
-  opening-ruled : (o : OpeningAt) (p q g : Slot)
-      → ruling (given (absolute (said bs o p q g)) BASE 0 >>= asked) ≡ openingRuling bs o (record { opening = o; path = p; query = q; fragment = g }) toAddress toPort
+  opening-answered : (o : OpeningAt) (p q g : Slot)
+      → (given (absolute (said bs o p q g)) BASE 0 >>= asked) ≡ openingAnswer bs o (record { opening = o; path = p; query = q; fragment = g }) toAddress toPort
   unfolding given _>>=_ absolute defaultPort
-  opening-ruled (discardAt k) p q g = refl
-  opening-ruled discardAllAt p q g = refl
-  opening-ruled (fullAt noScheme a) p q g = refl
-  opening-ruled (fullAt (numberAt n) a) p q g = entry-ruled _ (schemeIn schemes n) a p q g
-  opening-ruled (fullAt (nameAt at n) a) p q g = refl
+  opening-answered (discardAt k) p q g = refl
+  opening-answered discardAllAt p q g = refl
+  opening-answered (fullAt noScheme a) p q g = refl
+  opening-answered (fullAt (numberAt n) a) p q g = entry-answered _ (schemeIn schemes n) a p q g
+  opening-answered (fullAt (nameAt at n) a) p q g = refl
 
-  pub found-ruled : (eqb (length toAddress) 4 || eqb (length toAddress) 16) ≡ true → (f : Found) → read limits bs ≡ ok f → optionsCall limits bs toAddress toPort ≡ openingRuling bs (f .opening) f toAddress toPort
-  found-ruled a f e =
+  pub found-answered : (eqb (length toAddress) 4 || eqb (length toAddress) 16) ≡ true → (f : Found) → read limits bs ≡ ok f → optionsCall limits bs toAddress toPort ≡ openingAnswer bs (f .opening) f toAddress toPort
+  found-answered a f e =
       address-taken a
-      ∙ ap (λ (m : Res Cri). ruling (m >>= asked)) (read-absolute limits bs f e ∙ ap (λ (r : Reference). given (absolute r) BASE 0) (meaning-said bs (f .opening) (f .path) (f .query) (f .fragment)))
-      ∙ opening-ruled (f .opening) (f .path) (f .query) (f .fragment)
+      ∙ ap (λ (m : Res Cri). m >>= asked) (read-absolute limits bs f e ∙ ap (λ (r : Reference). given (absolute r) BASE 0) (meaning-said bs (f .opening) (f .path) (f .query) (f .fragment)))
+      ∙ opening-answered (f .opening) (f .path) (f .query) (f .fragment)
 
--- the rulings on what was found, one by one
+-- on what was found, case by case
 module _ {m : Option ℕ} (g : Slot) (w : ℕ → Bytes) where
-  pub default-none : m ≡ none → defaultRuling m g w ≡ refuse COAP
-  unfolding defaultRuling
+  pub default-none : m ≡ none → defaultAnswer m g w ≡ refused COAP 0
+  unfolding defaultAnswer
   default-none e = rw e
 
-  pub default-fragment : {d at n : ℕ} → m ≡ some d → g ≡ set at n → defaultRuling m g w ≡ refuse COAP
-  unfolding defaultRuling
+  pub default-fragment : {d at n : ℕ} → m ≡ some d → g ≡ set at n → defaultAnswer m g w ≡ refused COAP 0
+  unfolding defaultAnswer
   default-fragment e f = rw (e, f)
 
-  pub default-some : {d : ℕ} → m ≡ some d → g ≡ unset → defaultRuling m g w ≡ write (w d)
-  unfolding defaultRuling
+  pub default-some : {d : ℕ} → m ≡ some d → g ≡ unset → defaultAnswer m g w ≡ ok (w d)
+  unfolding defaultAnswer
   default-some e f = rw (e, f)
 
 module _ (bs : Bytes) (f : Found) (toAddress : Bytes) (toPort : ℕ) {o : OpeningAt} where
-  pub ruled-discard : {k : ℕ} → o ≡ discardAt k → openingRuling bs o f toAddress toPort ≡ refuse BASE
-  ruled-discard e = rw e
+  pub answers-discard : {k : ℕ} → o ≡ discardAt k → openingAnswer bs o f toAddress toPort ≡ refused BASE 0
+  answers-discard e = rw e
 
-  pub ruled-all : o ≡ discardAllAt → openingRuling bs o f toAddress toPort ≡ refuse BASE
-  ruled-all e = rw e
+  pub answers-all : o ≡ discardAllAt → openingAnswer bs o f toAddress toPort ≡ refused BASE 0
+  answers-all e = rw e
 
   module _ {s : SchemeAt} {a : AuthorityAt} (e : o ≡ fullAt s a) where
-    pub ruled-none : s ≡ noScheme → openingRuling bs o f toAddress toPort ≡ refuse BASE
-    ruled-none d = rw (e, d)
+    pub answers-none : s ≡ noScheme → openingAnswer bs o f toAddress toPort ≡ refused BASE 0
+    answers-none d = rw (e, d)
 
-    pub ruled-number : {n : ℕ} → s ≡ numberAt n → openingRuling bs o f toAddress toPort ≡ numberRuling bs n a f toAddress toPort
-    ruled-number d = rw (e, d)
+    pub answers-number : {n : ℕ} → s ≡ numberAt n → openingAnswer bs o f toAddress toPort ≡ numberAnswer bs n a f toAddress toPort
+    answers-number d = rw (e, d)
 
-    pub ruled-name : {at n : ℕ} → s ≡ nameAt at n → openingRuling bs o f toAddress toPort ≡ refuse COAP
-    ruled-name d = rw (e, d)
+    pub answers-name : {at n : ℕ} → s ≡ nameAt at n → openingAnswer bs o f toAddress toPort ≡ refused COAP 0
+    answers-name d = rw (e, d)
 
 -- ---- what is known of the positions
 

@@ -1,0 +1,2 @@
+-- What the measuring program is told, as one number.
+pub mod Packed

@@ -1,0 +1,2 @@
+-- What a refusal and a verdict say.
+pub mod Answers
