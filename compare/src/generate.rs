@@ -75,7 +75,18 @@ fn segment_request(random: &mut Random) -> String {
 /// Bytes to read: a reference, one with faults, or no reference at all.
 fn input(random: &mut Random) -> Input {
     match random.below(1000) {
-        0..330 => Input::of(reference::reference(random, 0)),
+        0..315 => Input::of(reference::reference(random, 0)),
+        315..330 => {
+            let mut made = reference::bracketed(random);
+            match random.below(10) {
+                0 => damage::damage(random, &mut made.encoded),
+                1 => damage::damage_one_head(random, &mut made.encoded),
+                // Mostly in the authority.
+                2..4 => made.encoded.bytes.truncate(random.index(40)),
+                _ => {}
+            }
+            Input::of(made)
+        }
         330..630 => {
             let slips = random.pick(&[1, 1, 2]);
             Input::of(reference::reference(random, slips))

@@ -473,8 +473,11 @@ fn is_segment(text: &str) -> bool {
     text != "." && text != ".."
 }
 
+/// The rules of one label: no dot, no upper-case letter, no bracket.
 fn is_label(label: &str) -> bool {
-    !label.bytes().any(|b| matches!(b, b'.' | b'A'..=b'Z'))
+    !label
+        .bytes()
+        .any(|b| matches!(b, b'.' | b'A'..=b'Z' | b'[' | b']'))
 }
 
 /// The rules over all labels: at most 255 bytes with the dots between them, and no IPv4 look.

@@ -11,6 +11,7 @@ use compare::refusal::Refusal;
 use compare::resolver::resolve;
 use compare::uri_text::{longest, uri_text};
 use std::collections::BTreeMap;
+use std::net::Ipv6Addr;
 
 fn requests(seed: u64) -> impl Iterator<Item = Vec<u8>> {
     Generator::new(seed).take(COUNT)
@@ -772,7 +773,7 @@ fn every_byte_is_printed_in_every_place() {
     for (place, seen) in seen.iter().enumerate() {
         for byte in 0..=255 {
             let utf8 = !matches!(byte, 0xC0 | 0xC1 | 0xF5..=0xFF);
-            let label = !matches!(byte, b'.' | b'A'..=b'Z');
+            let label = !matches!(byte, b'.' | b'A'..=b'Z' | b'[' | b']');
             let possible = utf8 && (label || place > 0);
             assert_eq!(
                 seen[usize::from(byte)],
@@ -950,7 +951,7 @@ fn pairs_printed(first: &str, second: &str) -> Vec<[Vec<u8>; 2]> {
         .collect()
 }
 
-/// Labels that would print as an address are refused, and so is a label with a dot.
+/// Labels that would print as an address are refused, and so is a label with a dot or a bracket.
 #[test]
 fn some_pairs_are_refused_by_the_rules_of_labels() {
     let pairs = pairs_printed("0", "6");
@@ -961,6 +962,19 @@ fn some_pairs_are_refused_by_the_rules_of_labels() {
     let addresses = printed.iter().filter(|r| address(r).len() == 4).count();
     let names = printed.iter().filter(|r| labels(r).len() > 1).count();
     assert!(addresses >= 10 && names >= 10, "{addresses}, {names}");
+    // An IPv6 address, and its text with the brackets as a label.
+    let bracketed = pairs
+        .iter()
+        .zip(&printed)
+        .filter(|([_, refused], printed)| {
+            <[u8; 16]>::try_from(address(printed)).is_ok_and(|address| {
+                let label = format!("[{}]", Ipv6Addr::from(address));
+                let mut parts = refused.windows(label.len());
+                parts.any(|part| part == label.as_bytes())
+            })
+        });
+    let bracketed = bracketed.count();
+    assert!(bracketed >= 10, "{bracketed}");
 }
 
 #[test]

@@ -617,6 +617,133 @@ fn characters_are_broken_everywhere() {
     met.has_all(wanted);
 }
 
+/// Whether a label has a bracket.
+fn has_bracket(label: &[u8]) -> bool {
+    label.iter().any(|byte| matches!(byte, b'[' | b']'))
+}
+
+/// Whether a bracket, and no other rule, refuses a label.
+fn only_bracket(label: &[u8]) -> bool {
+    let other = |byte: &u8| matches!(byte, b'.' | b'A'..=b'Z');
+    has_bracket(label) && !label.iter().any(other)
+}
+
+/// Where the label at `place` stands among `count`.
+fn place_of(place: usize, count: usize) -> &'static str {
+    match place {
+        _ if count == 1 => "the only label",
+        0 => "the first label",
+        _ if place + 1 == count => "the last label",
+        _ => "a middle label",
+    }
+}
+
+const LABEL_PLACES: [&str; 4] = [
+    "the only label", "the first label", "a middle label", "the last label",
+];
+
+/// For each input of each call: where the label stands that is refused for a bracket, with the number that the call then has.
+#[test]
+fn brackets_in_every_call() {
+    let mut met = Vec::new();
+    let mut wanted = Vec::new();
+    for (call, input, number, told) in [
+        ("read", 1, 0, "6"),
+        ("segment", 1, 0, "6"),
+        ("resolve", 2, 0, "8"),
+        ("resolve", 3, 0, "6"),
+        ("authority", 1, 0, "6"),
+        ("authority", 2, 0, "8"),
+        ("text", 2, 0, "6"),
+        ("same", 1, 0, "6"),
+        ("same", 2, 1, "6"),
+        ("options", 2, 0, "6"),
+    ] {
+        let bracket = |(words, answer): (Words, Words)| {
+            let bytes = unhex(words[input]);
+            let walked = Walked::of(&bytes);
+            let (item, fault) = walked.fault()?;
+            let refused = fault == Fault::Rule && item.part == Part::Label;
+            if !refused || !only_bracket(item.content()?) {
+                return None;
+            }
+            let labels = |walked: &Walked| {
+                let labels = walked.items.iter().filter(|item| item.part == Part::Label);
+                labels.count()
+            };
+            let place = labels(&walked) - 1;
+            let count = labels(&Walked::until(&bytes, None));
+            Some((call, input, place_of(place, count), answer[number]))
+        };
+        met.extend(requests_of(call).filter_map(bracket));
+        wanted.extend(LABEL_PLACES.map(|place| (call, input, place, told)));
+    }
+    met.extend(requests_of("write").flat_map(|(words, answer)| {
+        let lent = unhex(words[2]);
+        let label = |part: &[&str]| {
+            let [start, length] = [part[1], part[2]].map(|word| word.parse::<usize>().ok());
+            let text = lent.get(start?..)?.get(..length?)?;
+            Some(str::from_utf8(text).is_ok() && only_bracket(text))
+        };
+        let labels: Vec<_> = words
+            .windows(3)
+            .filter(|part| part[0] == "label")
+            .map(|part| label(part).unwrap_or_default())
+            .collect();
+        let brackets = labels.iter().enumerate().filter(|&(_, bracket)| *bracket);
+        let place = |(place, _)| ("write", 0, place_of(place, labels.len()), answer[0]);
+        brackets.map(place).collect::<Vec<_>>()
+    }));
+    wanted.extend(LABEL_PLACES.map(|place| ("write", 0, place, "6")));
+    Tally::of(met).has_all(wanted);
+}
+
+/// Labels with a bracket where something else is wrong too: what decides.
+#[test]
+fn brackets_beside_other_faults() {
+    use Fault::*;
+    let inputs = inputs();
+    // Faults of the same item, which come before.
+    let before = Tally::of(walked(&inputs).filter_map(|walked| {
+        let (item, fault) = walked.fault()?;
+        // As much of the content as is there.
+        let length = usize::try_from(item.number?).ok()?.min(item.after.len());
+        has_bracket(&item.after[..length]).then_some((item.part, fault))
+    }));
+    before.has_all([NotShortest, Range, ContentCut, NotUtf8].map(|fault| (Part::Label, fault)));
+    before.has_all([(Part::SchemeText, Rule), (Part::NinthLabel, Range)]);
+    // Faults of later items, and of all labels.
+    let after = Tally::of(walked(&inputs).flat_map(|walked| {
+        let Some((&item, Rule)) = walked.fault() else {
+            return vec![];
+        };
+        let content = item.content().unwrap_or_default();
+        if item.part != Part::Label || !only_bracket(content) {
+            return vec![];
+        }
+        let all = Walked::until(walked.input, None).items;
+        let labels = all.iter().filter(|item| item.part == Part::Label);
+        let lengths: Vec<_> = labels.filter_map(|item| item.number).collect();
+        let later = &all[walked.items.len()..];
+        let is_refused = |item: &Item| match item.part {
+            Part::Port => item.number > Some(65_535),
+            Part::Segment => matches!(item.content(), Some(b"." | b"..")),
+            Part::End => true,
+            _ => false,
+        };
+        let mut met: Vec<_> = later
+            .iter()
+            .filter(|item| is_refused(item))
+            .map(|item| format!("{:?}", item.part))
+            .collect();
+        if lengths.iter().sum::<u64>() + lengths.len() as u64 > 256 {
+            met.push("the total".to_string());
+        }
+        met
+    }));
+    after.has_all(["Port", "Segment", "End", "the total"].map(str::to_string));
+}
+
 /// Lengths and numbers of components, with the number answered.
 #[test]
 fn every_size_of_components() {

@@ -77,6 +77,18 @@ fn write_answers_what_it_wrote() {
             "6 at 0 0 - kept",
         ),
         (
+            "write 9 5b3a3a315d scheme number 0 authority label 0 5",
+            "6 at 0 0 - kept",
+        ),
+        (
+            "write 0 5b3a3a315d scheme none authority label 1 3 label 4 1 port 80",
+            "6 at 0 0 - kept",
+        ),
+        (
+            "write 9 5b3a3a315d scheme number 0 authority label 1 3",
+            "0 7 822081633a3a31 kept",
+        ),
+        (
             "write 60 687a3904fe9861 scheme text 1 2 authority address 3 4 port 5683 \
              path segment 7 0 segment 6 1 query parameter 0 1 fragment 0 0",
             "0 21 85627a39824404fe98611916338260616181616860 kept",
@@ -250,6 +262,8 @@ fn the_readers_refusals_in_every_call() {
         (&over, 4, 1024),
         ("822082616161ff", 5, 5),
         ("8220826161615a", 6, 5),
+        ("8220826161655b3a3a315d", 6, 5),
+        ("842083615d61611904d2f6816161", 6, 3),
         ("8220846131613261336134", 6, 2),
         ("822081616800", 7, 5),
     ] {

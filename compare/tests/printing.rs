@@ -196,7 +196,7 @@ fn every_byte_in_every_place() {
             let (input, [before, after]) = with_text(place, text);
             let utf8 = !matches!(byte, 0xC0 | 0xC1 | 0xF5..=0xFF);
             let rule = match place {
-                0 => matches!(byte, b'.' | b'A'..=b'Z'),
+                0 => matches!(byte, b'.' | b'A'..=b'Z' | b'[' | b']'),
                 1 => byte == b'.',
                 _ => false,
             };
@@ -571,7 +571,9 @@ fn small_authorities_have_one_text_where_they_are_the_same() {
         }
     }
     let count = inputs.len();
-    // Four labels of "1" and "2" are refused: 2 * 2 hosts.
-    let expected = count - schemes.len() * 4 * 4 * 3;
+    // Refused are four labels of "1" and "2", which are 2 * 2 hosts, and the 2 labels with a bracket: each alone, and every pair with one
+    // of them, by itself and after "1" and "2".
+    let refused = 4 + 2 + 2 * (11 * 11 - 9 * 9);
+    let expected = count - schemes.len() * refused * 4 * 3;
     assert_eq!(one_text_for_the_same(inputs.into_iter()), expected);
 }

@@ -347,7 +347,7 @@ fn reading_10_the_ipv4_look() {
 #[test]
 fn reading_11_letters_are_ascii() {
     for label in [
-        "\u{c9}", "@", "[", "[::1]", "`", "-", "/", " ", "\0", "\u{7f}", "xn--a", "\u{ff0e}",
+        "\u{c9}", "@", "`", "-", "/", " ", "\0", "\u{7f}", "xn--a", "\u{ff0e}",
     ] {
         assert_eq!(name(&[label]), ACCEPTED, "{label}");
     }
@@ -362,6 +362,144 @@ fn reading_11_letters_are_ascii() {
     // Two bytes of 128 characters: the length is that in bytes.
     let fragment = [encode::head(3, 256), "\u{e9}".repeat(128).into_bytes()].concat();
     assert_eq!(outcome_of(&[TRUE, NULL, NULL, &fragment]), at(4, 4));
+}
+
+#[test]
+fn a_label_holds_no_bracket() {
+    for label in [
+        "[::1]", "[", "]", "[]", "][", "[a", "a[", "]a", "a]", "a[b", "1]", "\u{e9}[",
+        "]\u{10ffff}",
+    ] {
+        assert_eq!(name(&[label]), at(6, 3), "{label}");
+        assert_eq!(name(&[label, "b", "c"]), at(6, 3), "{label}");
+        assert_eq!(name(&["b", label, "c"]), at(6, 5), "{label}");
+        assert_eq!(name(&["b", "c", label]), at(6, 7), "{label}");
+        let last = ["a", "b", "c", "d", "e", "f", "g", label];
+        assert_eq!(name(&last), at(6, 17), "{label}");
+    }
+    // At each place of the longest label.
+    for place in 0..63 {
+        for bracket in ["[", "]"] {
+            let mut label = "a".repeat(63);
+            label.replace_range(place..=place, bracket);
+            assert_eq!(name(&[&label]), at(6, 3), "{label}");
+        }
+    }
+    for label in [
+        "::1", "\\", "^", "{", "}", "(", ")", "%5b", "\u{ff3b}", "\u{15b}", "\u{15d}",
+    ] {
+        assert_eq!(name(&[label]), ACCEPTED, "{label}");
+        assert_eq!(name(&["b", label]), ACCEPTED, "{label}");
+    }
+}
+
+/// Faults that come before the rules of a label, in an item that holds a bracket.
+#[test]
+fn a_bracket_after_the_other_faults_of_its_item() {
+    // The kind.
+    refused("82 20 81 81 61 5B", 2, 3);
+    refused("82 20 82 61 61 41 5B", 2, 5);
+    refused("82 20 82 44 01020304 61 5B", 2, 8);
+    refused("82 20 83 61 61 05 61 5B", 2, 6);
+    // The head.
+    refused("82 20 81 7C 5B", 3, 3);
+    refused("82 20 81 7F 61 5B FF", 3, 3);
+    refused("82 20 81 79 5B", 1, 3);
+    refused("82 20 81 78 01 5B", 3, 3);
+    refused("82 20 82 61 61 79 0001 5D", 3, 5);
+    // The length, and the number of labels.
+    refused("82 20 81 60 5B", 4, 3);
+    refused(&format!("82 20 81 78 40 {}", "5B".repeat(64)), 4, 3);
+    refused("82 20 81 78 40 5B", 4, 3);
+    refused(&format!("82 20 89 {} 61 5B", "61 61".repeat(8)), 4, 19);
+    // The content.
+    refused("82 20 81 62 5B", 1, 3);
+    refused("82 20 81 65 5B3A3A31", 1, 3);
+    refused("82 20 82 61 61 62 5D", 1, 5);
+    // UTF-8.
+    refused("82 20 81 62 5B FF", 5, 3);
+    refused("82 20 81 62 FF 5D", 5, 3);
+    refused("82 20 81 62 5D C3", 5, 3);
+    refused("82 20 81 62 C3 5B", 5, 3);
+    refused("82 20 82 61 61 62 5B 80", 5, 5);
+    // Another rule of the same label.
+    refused("82 20 81 62 5B 41", 6, 3);
+    refused("82 20 81 62 2E 5D", 6, 3);
+}
+
+#[test]
+fn a_bracket_after_a_fault_of_an_earlier_item() {
+    refused("A2 20 81 61 5B", 2, 0);
+    refused("86 20 81 61 5B", 2, 0);
+    refused("98 02 20 81 61 5B", 3, 0);
+    refused("82 22 81 61 5B", 6, 1);
+    refused("82 61 5B 81 61 5B", 6, 1);
+    refused("82 38 00 81 61 5B", 3, 1);
+    refused("82 20 8A 61 5B", 4, 2);
+    refused("82 20 98 01 61 5B", 3, 2);
+    refused("82 20 82 05 61 5B", 2, 3);
+    refused("82 20 82 7F 61 5B", 3, 3);
+    refused("82 20 82 60 61 5B", 4, 3);
+    refused("82 20 82 61 FF 61 5B", 5, 3);
+    refused("82 20 82 61 41 61 5B", 6, 3);
+    refused("82 20 82 61 5D 61 5B", 6, 3);
+    refused("82 20 83 61 61 1A 00010000 61 5B", 4, 5);
+    // An input that is too long.
+    let path = texts(&[255, 255, 255, 246]);
+    assert_eq!(outcome_of(&[COAP, &bytes("81 61 5B"), &path]), at(4, 1024));
+    let path = texts(&[255, 255, 255, 245]);
+    assert_eq!(outcome_of(&[COAP, &bytes("81 61 5B"), &path]), at(6, 3));
+}
+
+#[test]
+fn a_bracket_before_a_fault_of_a_later_item() {
+    for later in [
+        "", "F6", "44 01020304", "1A 00010000", "18", "61", "7F", "78 01 61", "60", "61 FF",
+        "61 41", "61 5D",
+    ] {
+        refused(&format!("82 20 82 61 5B {later}"), 6, 3);
+        refused(&format!("82 20 83 61 61 61 5D {later}"), 6, 5);
+    }
+    for later in ["", "F6", "F5", "98 21", "81 61 2E", "81 61 FF", "81 62 61"] {
+        refused(&format!("83 20 81 61 5B {later}"), 6, 3);
+        refused(&format!("83 20 82 62 61 5D 05 {later}"), 6, 3);
+    }
+    refused("84 20 81 61 5B F6 80", 6, 3);
+    refused("85 20 81 61 5B F6 F6 F6", 6, 3);
+    refused("82 20 81 61 5B 00", 6, 3);
+    // The total of the labels.
+    let long = "a".repeat(63);
+    let bracket = format!("[{}", &long[1..]);
+    assert_eq!(name(&[&long, &long, &long, &long, "a"]), at(6, 2));
+    assert_eq!(name(&[&bracket, &long, &long, &long, "a"]), at(6, 3));
+    assert_eq!(name(&[&long, &bracket, &long, &long, "a"]), at(6, 68));
+    assert_eq!(name(&[&long, &long, &long, &long, "]"]), at(6, 263));
+    // What would look like an IPv4 address without the brackets.
+    assert_eq!(name(&["1", "2", "3", "4"]), at(6, 2));
+    assert_eq!(name(&["[1", "2", "3", "4]"]), at(6, 3));
+    assert_eq!(name(&["1", "2", "3", "4]"]), at(6, 9));
+    assert_eq!(name(&["1", "2", "3", "4", "]"]), at(6, 11));
+}
+
+/// A scheme text never had brackets; the other texts may have them.
+#[test]
+fn brackets_in_other_texts() {
+    for text in ["[", "]", "[::1]", "a[", "]a", "a[b]"] {
+        assert_eq!(scheme(text), at(6, 1), "{text}");
+        let item = encode::text_of(text.as_bytes());
+        let list = array(std::slice::from_ref(&item));
+        let label = texts(&[1]);
+        for opening in [&[TRUE][..], &[COAP, &label], &[NULL, &label]] {
+            for after in [&[&list[..]][..], &[NULL, &list], &[NULL, NULL, &item]] {
+                let items = [opening, after].concat();
+                assert_eq!(outcome_of(&items), ACCEPTED, "{text}");
+            }
+        }
+    }
+    accepted(
+        "85 20 81 61 61 81 62 5B5D 81 61 5B 61 5D",
+        "scheme number 0 authority label 61 path segment 5b5d query parameter 5b fragment 5d",
+    );
 }
 
 #[test]

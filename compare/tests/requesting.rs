@@ -255,20 +255,25 @@ fn destinations() {
     let longest = "[ffff:ffff:ffff:ffff:ffff:ffff:ffff:ffff]";
     assert_eq!(to(&"FF".repeat(16), ipv6), Ok(host(longest)));
     // Labels are written whatever the destination is.
-    let named = array(&[bytes("20"), array(&[text_of(b"[::]")])]);
-    assert_eq!(asked(&named, &[0; 16], 5683), Ok(host("[::]")));
+    let named = |label: &[u8]| array(&[bytes("20"), array(&[text_of(label)])]);
+    assert_eq!(asked(&named(b"::"), &[0; 16], 5683), Ok(host("::")));
+    // A label is never written as an address is.
+    assert_eq!(asked(&named(b"[::]"), &[0; 16], 5683), Err((6, 3)));
+    assert_eq!(asked(&named(b"[::]"), &[1; 16], 5683), Err((6, 3)));
 }
 
 /// No byte is escaped.
 #[test]
 fn values_are_raw() {
     let raw = "%2f/?#&%é\u{0}[ ]\u{10FFFF}";
-    let item = text_of(raw.as_bytes());
-    let one = array(std::slice::from_ref(&item));
-    let two = array(&[item.clone(), item]);
-    let input = array(&[bytes("20"), two, one.clone(), one]);
+    // A label has no brackets.
+    let raw_label = "%2f/?#&%é\u{0}{ }\u{10FFFF}";
+    let label = text_of(raw_label.as_bytes());
+    let labels = array(&[label.clone(), label]);
+    let texts = array(&[text_of(raw.as_bytes())]);
+    let input = array(&[bytes("20"), labels, texts.clone(), texts]);
     let options = parsed(&asked(&input, &[0; 4], 5683).expect("options")).expect("options");
-    let name = [raw, raw].join(".");
+    let name = [raw_label, raw_label].join(".");
     let expected = [(3, name.as_str()), (11, raw), (15, raw)];
     assert_eq!(
         options,

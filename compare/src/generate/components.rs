@@ -26,10 +26,11 @@ fn sayable(random: &mut Random) -> (Made, Vec<Part>) {
     loop {
         let mut made = match random.below(100) {
             0..35 => reference::reference(random, 0),
-            35..90 => {
+            35..88 => {
                 let slips = random.pick(&[1, 2]);
                 reference::reference(random, slips)
             }
+            88..90 => reference::bracketed(random),
             _ => reference::around_longest(random),
         };
         if random.chance(8) {

@@ -3,7 +3,7 @@
 use super::damage::append;
 use super::item::{head_of, Encoded, Item};
 use super::random::Random;
-use super::reference::{without_dots, Maker};
+use super::reference::{without_dots, Maker, BRACKETS};
 
 pub type Text = Vec<u8>;
 
@@ -189,7 +189,7 @@ fn texts(random: &mut Random, text: fn(&mut Random, Bytes) -> Text, bytes: Bytes
 fn label(random: &mut Random, bytes: Bytes) -> Text {
     let mut label = pieces(random, 1, bytes);
     if bytes == Bytes::Allowed {
-        label.retain(|byte| !matches!(byte, b'.' | b'A'..=b'Z'));
+        label.retain(|byte| !matches!(byte, b'.' | b'A'..=b'Z' | b'[' | b']'));
     }
     if label.is_empty() {
         label.push(b'h');
@@ -265,6 +265,14 @@ pub fn around_longest(random: &mut Random) -> Vec<u8> {
     Encoded::array(&items).bytes
 }
 
+/// One to three labels, one of them with a bracket.
+fn bracketed(random: &mut Random) -> Vec<Text> {
+    let count = random.pick(&[1, 2, 3, 3]);
+    let mut labels = vec![b"h".to_vec(); count];
+    labels[random.index(count)] = random.pick(&BRACKETS).into();
+    labels
+}
+
 /// A link with a fault: one for each number from 1 to 8.
 pub fn faulty(random: &mut Random) -> Vec<u8> {
     let mut link = Link::new(random, Bytes::Allowed);
@@ -290,7 +298,11 @@ pub fn faulty(random: &mut Random) -> Vec<u8> {
             bytes = link.encoded().bytes;
         }
         5 => {
-            link.scheme = random.pick(&[Item::Negative(2), Item::Text(b"coap".to_vec())]);
+            match random.below(3) {
+                0 => link.scheme = Item::Negative(2),
+                1 => link.scheme = Item::Text(b"coap".to_vec()),
+                _ => link.host = Host::Labels(bracketed(random)),
+            }
             bytes = link.encoded().bytes;
         }
         6 => append(random, &mut bytes),

@@ -59,7 +59,11 @@ fn pair(random: &mut Random) -> Pair {
             ..small(random)
         },
         56..69 => discarding(random),
-        69..88 => small(random),
+        69..87 => small(random),
+        87 => Pair {
+            base: reference::bracketed(random).encoded.bytes,
+            ..small(random)
+        },
         88..94 => around_most_segments(random),
         _ => around_longest(random),
     }

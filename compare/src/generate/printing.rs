@@ -196,7 +196,7 @@ fn confuse(random: &mut Random, link: &mut Link) {
         }
         6 => match &mut link.host {
             Host::Labels(labels) => join(random, labels, b"."),
-            Host::Address(address) => link.host = Host::Labels(address_labels(address)),
+            Host::Address(address) => link.host = Host::Labels(address_labels(random, address)),
         },
         7 => {
             let place = random.index(path.len());
@@ -209,7 +209,7 @@ fn confuse(random: &mut Random, link: &mut Link) {
         9 => escape_one(random, link.fragment.get_or_insert_default(), false),
         10 => match &mut link.host {
             Host::Labels(labels) => escape_one(random, &mut labels[0], true),
-            Host::Address(address) => link.host = Host::Labels(address_labels(address)),
+            Host::Address(address) => link.host = Host::Labels(address_labels(random, address)),
         },
         // Empty texts.
         _ => match random.below(3) {
@@ -250,10 +250,14 @@ fn escape_one(random: &mut Random, text: &mut Text, label: bool) {
     }
 }
 
-/// Labels that read as the address does.
-fn address_labels(address: &[u8]) -> Vec<Text> {
+/// Labels that read as the address does: of 16 bytes one label, in brackets or without them.
+fn address_labels(random: &mut Random, address: &[u8]) -> Vec<Text> {
     match <[u8; 16]>::try_from(address) {
-        Ok(address) => vec![format!("[{}]", std::net::Ipv6Addr::from(address)).into_bytes()],
+        Ok(address) => {
+            let bare = std::net::Ipv6Addr::from(address).to_string();
+            let label = random.pick(&[format!("[{bare}]"), bare]);
+            vec![label.into_bytes()]
+        }
         Err(_) => address
             .iter()
             .map(|octet| octet.to_string().into_bytes())

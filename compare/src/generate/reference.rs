@@ -77,8 +77,10 @@ fn texts_of(item: &mut Item) -> Vec<&mut Vec<u8>> {
 pub fn nine_labels(random: &mut Random) -> (Made, usize) {
     let mut maker = Maker::brief(random);
     let mut labels: Vec<_> = (0..9).map(|_| maker.label(true)).collect();
-    if maker.random.chance(20) {
-        labels[8] = maker.stranger();
+    match maker.random.below(10) {
+        0..2 => labels[8] = maker.stranger(),
+        2 => maker.bracket(&mut labels[8..]),
+        _ => {}
     }
     maker.with_authority(labels)
 }
@@ -97,6 +99,23 @@ pub fn after_port(random: &mut Random) -> (Made, usize) {
     };
     authority.extend([maker.port(), maker.stranger()]);
     maker.with_authority(authority)
+}
+
+/// A reference with a bracket in a label, and with other faults or without.
+pub fn bracketed(random: &mut Random) -> Made {
+    let slips = random.pick(&[0, 0, 1, 2]);
+    let mut maker = Maker::new(random, slips);
+    let mut authority = match maker.random.below(4) {
+        0 => maker.decimals(),
+        1 => maker.long_name(),
+        _ => maker.labels(),
+    };
+    maker.bracket(&mut authority);
+    if maker.random.chance(40) {
+        authority.push(maker.port());
+    }
+    let opening = vec![maker.scheme(), Item::Array(authority)];
+    maker.reference(opening)
 }
 
 /// How many segments a path has.
@@ -147,9 +166,16 @@ const SCHEME_TEXTS: [&str; 18] = [
     "coap.ws",
 ];
 
-const BAD_SCHEME_TEXTS: [&str; 20] = [
+const BAD_SCHEME_TEXTS: [&str; 23] = [
     "coap", "coaps", "coap+tcp", "coaps+tcp", "coap+ws", "coaps+ws", "", "abcdefghijklmnopq",
-    "Http", "httP", "0a", "+a", ".a", "-a", "a_", "a:", "a/", "a`", "a{", "h\u{e9}",
+    "Http", "httP", "0a", "+a", ".a", "-a", "a_", "a:", "a/", "a`", "a{", "[a", "a[", "a]",
+    "h\u{e9}",
+];
+
+/// Labels that are refused for a bracket and for nothing else.
+pub const BRACKETS: [&str; 14] = [
+    "[", "]", "[]", "][", "[::1]", "[::]", "[::1", "::1]", "[h]", "a[b", "a]b", "1]", "\u{e9}]",
+    "[\u{10ffff}",
 ];
 
 /// UTF-8 of every length, at the ends of its ranges.
@@ -396,9 +422,26 @@ impl<'r> Maker<'r> {
         let mut label = lower_case(self.text_of(length));
         if self.slip() && length > 0 {
             let place = self.random.index(length);
-            label[place] = self.random.pick(b".AZMB");
+            label[place] = self.random.pick(b".AZMB[]");
         }
         self.text_item(label)
+    }
+
+    /// Puts a bracket into one of the labels: the first, the last or any.
+    fn bracket(&mut self, labels: &mut [Item]) {
+        if labels.is_empty() {
+            return;
+        }
+        let any = self.random.index(labels.len());
+        let place = self.random.pick(&[0, any, labels.len() - 1]);
+        if let Item::Text(label) = &mut labels[place] {
+            if label.is_empty() || self.random.chance(40) {
+                *label = self.random.pick(&BRACKETS).into();
+            } else {
+                let place = self.random.index(label.len());
+                label[place] = self.random.pick(b"[]");
+            }
+        }
     }
 
     /// Labels that are, or nearly are, the parts of an IPv4 address.
@@ -621,15 +664,12 @@ impl<'r> Maker<'r> {
     }
 }
 
-/// A text that may be a label: lower-case and without dots.
+/// A text that may be a label: lower-case, without dots and brackets.
 fn lower_case(text: Vec<u8>) -> Vec<u8> {
     text.into_iter()
-        .map(|b| {
-            if b == b'.' {
-                b'-'
-            } else {
-                b.to_ascii_lowercase()
-            }
+        .map(|b| match b {
+            b'.' | b'[' | b']' => b'-',
+            _ => b.to_ascii_lowercase(),
         })
         .collect()
 }

@@ -25,6 +25,8 @@ pub mod Resolving
 pub mod ResolvedAgain
 pub mod OptionsBack
 pub mod OptionsBound
+pub mod Amended
+pub mod HostBack
 pub mod CallNumbers
 pub mod ViewNumbers
 pub mod Compute

@@ -17,7 +17,8 @@ use Rattle.rules.specs.Resolve.{resolve}
 use Rattle.rules.specs.Text.{uriText}
 use Rattle.rules.specs.Options.{options, optionsFrom, readOptions}
 use Rattle.rules.specs.Calls.{lengthOf, outcome, after, textCall, optionsCall}
-use Rattle.rules.specs.Cases.{starred, unstarred, slips, steps, refusals, accepted, sizes, texts, escaped, requests, codings, addresses, segmentRows, authorityRows, bases}
+use Rattle.rules.specs.Amended.{earlierByte}
+use Rattle.rules.specs.Cases.{starred, unstarred, slips, steps, refusals, accepted, sizes, texts, escaped, requests, codings, addresses, segmentRows, authorityRows, bases, labelBytes}
 use Rattle.rules.specs.Promises as P
 use Rattle.rules.specs.Promises.{shown, Writes, unfragmented}
 use Rattle.rules.proofs.Steps.{ok-at}
@@ -32,6 +33,8 @@ use Rattle.rules.proofs.Resolving.{nothing, resolve-nothing, resolve-em
 use Rattle.rules.proofs.ResolvedAgain.{encode-some, valid-unfragmented, valid-normal, read-nothing}
 use Rattle.rules.proofs.OptionsBack.{options-octets, options-read, IsOptions, is-options, requested-read}
 use Rattle.rules.proofs.OptionsBound.{read-options-bound}
+use Rattle.rules.proofs.Amended.{valid-earlier, earlier-valid}
+use Rattle.rules.proofs.HostBack.{host-determined}
 use Rattle.rules.proofs.CallNumbers.{untouched, room-numbers, read-answers, resolve-answers, text-answers, options-answers, write-answers}
 use Rattle.rules.proofs.ViewNumbers.{segment-answers, authority-answers}
 use Rattle.rules.proofs.Compute.{computed}
@@ -45,6 +48,13 @@ complete-proved lim small r v = (encode-octets lim small r v, complete lim small
 pub exact-proved : P.Exact
 exact-proved lim small bs r h =
     (λ e. ok-at (canonical lim bs h) e, λ e. ap (readReference lim) (sym (e .0)) ∙ complete lim small r (e .1))
+
+pub brackets-proved : P.Brackets
+brackets-proved lim small bs r h =
+    let exact = exact-proved lim small bs r h in (
+      λ e. let x = exact .0 e in let b = valid-earlier lim r (x .1) in (x .0, b .0, b .1),
+      λ e. exact .1 (e .0, earlier-valid lim r (e .1) (e .2)),
+    )
 
 pub numbers-proved : P.Numbers
 numbers-proved = numbers
@@ -172,6 +182,9 @@ options-exact-proved bs os h = (
 pub options-read-proved : P.OptionsRead
 options-read-proved lim bs toAddress toPort w h e = ok-at (requested-read lim bs toAddress toPort h) e
 
+pub host-determined-proved : P.HostDetermined
+host-determined-proved = host-determined
+
 pub options-bound-proved : P.OptionsBound
 options-bound-proved lim bs toAddress toPort w h e =
     let q : P.Requested lim bs toAddress toPort w = options-read-proved lim bs toAddress toPort w h e in
@@ -186,7 +199,7 @@ unfolding computed starred
 starred-proved = refl
 
 pub examples-proved : P.Examples
-unfolding computed unstarred slips steps refusals accepted sizes texts escaped requests codings addresses segmentRows authorityRows bases
+unfolding computed unstarred slips steps refusals accepted sizes texts escaped requests codings addresses segmentRows authorityRows bases labelBytes earlierByte
 examples-proved =
     record {
       rows = refl;
@@ -203,4 +216,5 @@ examples-proved =
       segments = refl;
       authorities = refl;
       bases = refl;
+      labelBytes = refl;
     }

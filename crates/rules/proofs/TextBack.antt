@@ -123,11 +123,11 @@ starts-not d [] none z h = refl
 starts-not d [] (some x) z h = z
 starts-not d (c ∷ xs) o z h = h .0
 
-fill-some : (ps : List Bytes) → filled ps ≡ true → fill ps ≡ ps
+pub fill-some : (ps : List Bytes) → filled ps ≡ true → fill ps ≡ ps
 fill-some [] h = cc
 fill-some (p ∷ ps) h = refl
 
-some-filled : (high : ℕ) (ls : List Bytes) → within 1 high (length ls) ≡ true → filled ls ≡ true
+pub some-filled : (high : ℕ) (ls : List Bytes) → within 1 high (length ls) ≡ true → filled ls ≡ true
 some-filled high [] h = never h
 some-filled high (l ∷ ls) h = refl
 
@@ -206,11 +206,11 @@ decimals-values : (bs : Bytes) → Octets bs → map (value 10) (map decimal bs)
 decimals-values [] h = refl
 decimals-values (b ∷ bs) h = ap₂ (λ (x : ℕ) (xs : Bytes). x ∷ xs) (decimal-value b (omega arith)) (decimals-values bs (h .1))
 
-decimals-host : (bs : Bytes) → length bs ≡ 4 → Octets bs → unHost (map decimal bs) ≡ address bs
+pub decimals-host : (bs : Bytes) → length bs ≡ 4 → Octets bs → unHost (map decimal bs) ≡ address bs
 unfolding unHost
 decimals-host bs e h = rw (length-map bs decimal, e, decimals-octets bs h, decimals-values bs h)
 
-decimals-some : (bs : Bytes) → length bs ≡ 4 → filled (map decimal bs) ≡ true
+pub decimals-some : (bs : Bytes) → length bs ≡ 4 → filled (map decimal bs) ≡ true
 decimals-some [] e = let z : _≡_ {A = ℕ} 0 1 = omega arith in cc
 decimals-some (b ∷ bs) e = refl
 
@@ -230,7 +230,7 @@ labels-lack : (ls : List Bytes) → Each (Good label) ls → Each (All (lacks na
 labels-lack [] h = tt
 labels-lack (l ∷ ls) h = (label-lacks l (h .0), labels-lack ls (h .1))
 
-labels-host : (ls : List Bytes) → nameRule ls ≡ true → unHost ls ≡ labels ls
+pub labels-host : (ls : List Bytes) → nameRule ls ≡ true → unHost ls ≡ labels ls
 unfolding unHost nameRule
 labels-host ls h = rw (not-true (looksIPv4 ls) (and-right (leb (length (join dot ls)) 255) _ h))
 

@@ -2,17 +2,20 @@
 use Prim.Native.Nat.{ℕ, zero, suc}
 use Prim.Native.String.{String}
 use mathlib.Core.Path.{_≡_}
+use mathlib.Core.Bool.{Bool, true, false}
 use mathlib.Core.List.{List, [], _∷_, _++_, map}
 use mathlib.Core.Option.{Option, none, some}
 use lib.ListN.{replicate}
 use Rattle.rules.specs.Bytes.{Bytes, ascii, hex, concat}
 use Rattle.rules.specs.Result.{Res, refused, ok, _>>=_}
 use Rattle.rules.specs.Model.{Span, limits}
+use Rattle.rules.specs.Rules.{labelByte}
 use Rattle.rules.specs.Reader.{Found, read}
 use Rattle.rules.specs.Meaning.{span}
 use Rattle.rules.specs.Text.{Class, Label, Segment, Parameter, Fragment, escape}
 use Rattle.rules.specs.Address.{ipv6Text}
 use Rattle.rules.specs.Options.{CoapOption, option, readOptions}
+use Rattle.rules.specs.Amended.{earlierByte}
 use Rattle.rules.specs.Calls.{resolveCall, textCall, optionsCall}
 use Rattle.rules.specs.Views.{segmentView, Piece, ofReference, ofBase, authorityView, segmentShown, pieceShown, verdict}
 
@@ -216,9 +219,14 @@ refusals =
     ∷ refusedAt "82 62 61 7B" 6 1
     ∷ refusedAt "82 62 61 2F" 6 1
     ∷ refusedAt "82 62 61 3A" 6 1
-    -- "Z" and "." as a label, "." as a segment
+    -- "Z", "." and "[" as a label, "[::1]", "]" after another label, after a bracket no UTF-8, after three octets; "." as a segment
     ∷ refusedAt "82 20 81 61 5A" 6 3
     ∷ refusedAt "82 20 81 61 2E" 6 3
+    ∷ refusedAt "82 20 81 61 5B" 6 3
+    ∷ refusedAt "82 20 81 65 5B 3A 3A 31 5D" 6 3
+    ∷ refusedAt "82 20 82 61 61 61 5D" 6 5
+    ∷ refusedAt "82 20 81 62 5B FF" 5 3
+    ∷ refusedAt "82 20 84 61 31 61 32 61 33 61 5D" 6 9
     ∷ refusedAt "82 00 81 61 2E" 6 3
     -- UTF-8: an overlong form, a surrogate, a number over 10FFFF, a byte that leads nothing
     ∷ refusedAt "82 00 81 63 E0 9F BF" 5 3
@@ -261,8 +269,10 @@ accepted =
     ∷ accepts (hex "82 20 84 61 31 61 32 61 33 61 61")
     ∷ accepts (hex "82 20 83 61 31 61 32 61 33")
     ∷ accepts (hex "82 20 85 61 31 61 32 61 33 61 34 61 35")
-    -- "@" as a label; "..." as a segment; each byte of a scheme text; UTF-8 at the ends of its ranges
+    -- "@" as a label, and the bytes beside the brackets; brackets and "..." as segments; each byte of a scheme text; UTF-8 at the ends of its ranges
     ∷ accepts (hex "82 20 81 61 40")
+    ∷ accepts (hex "82 20 82 61 5C 61 5E")
+    ∷ accepts (hex "82 00 82 61 5B 61 5D")
     ∷ accepts (hex "82 00 81 63 2E 2E 2E")
     ∷ accepts (hex "82 68 61 7A 30 39 2B 2E 2D 6D 81 61 61")
     ∷ accepts (hex "82 00 82 62 C2 80 62 DF BF")
@@ -568,4 +578,35 @@ bases =
     ∷ refusedBase (hex "82 20 81 61 61 00") 5
     ∷ refusedBase (hex "80") 0
     ∷ refusedBase (hex "82 F6 81 61 61") 0
+    ∷ []
+
+-- ---- 11.12: bytes of labels, by the rule as it was and as it is
+
+-- a byte, and whether it may stand in a label
+pub record LabelByte : Type 0 where
+  pub byte : ℕ
+  pub before : Bool
+  pub since : Bool
+
+-- the byte as it is
+abbrev pub labelled : ℕ → Bool → Bool → LabelByte
+labelled b was is = record { byte = b; before = was; since = is }
+
+-- by both definitions
+abbrev pub answeredByte : LabelByte → LabelByte
+answeredByte l = record { byte = l .byte; before = earlierByte (l .byte); since = labelByte (l .byte) }
+
+-- the brackets, which the amendment takes away, the bytes beside them; both ends of A to Z, the bytes beside them; "."
+unfoldable pub labelBytes : List LabelByte
+labelBytes =
+    labelled 0x5B true false
+    ∷ labelled 0x5D true false
+    ∷ labelled 0x5C true true
+    ∷ labelled 0x5E true true
+    ∷ labelled 0x41 false false
+    ∷ labelled 0x5A false false
+    ∷ labelled 0x40 true true
+    ∷ labelled 0x2E false false
+    ∷ labelled 0x2D true true
+    ∷ labelled 0x2F true true
     ∷ []

@@ -8,19 +8,20 @@ use mathlib.Core.Option.{none, some}
 use lib.ListN.{length, take, drop, getElem?}
 use Rattle.rules.specs.Bytes.{Bytes, Octets, all, hex}
 use Rattle.rules.specs.Result.{Res, refused, ok, CUT, TAIL, RESULT}
-use Rattle.rules.specs.Model.{Authority, discard, full, Span, Reference, absolute, Components, mapParts, Limits, elements, Cri, reference, normalPath, normal, Same}
+use Rattle.rules.specs.Model.{Host, Authority, discard, full, Span, Reference, absolute, Components, mapParts, Limits, elements, Cri, reference, normalPath, normal, Same}
 use Rattle.rules.specs.Reader.{taken, Found, read}
 use Rattle.rules.specs.Meaning.{span, components, readReference, readAbsolute}
 use Rattle.rules.specs.Encode.{authorityItem, encode}
-use Rattle.rules.specs.Valid.{Valid}
+use Rattle.rules.specs.Valid.{GoodHost, Valid}
+use Rattle.rules.specs.Amended.{EarlierValid, NoBrackets}
 use Rattle.rules.specs.Resolve.{openingAuthority, resolve, fits}
 use Rattle.rules.specs.Rules.{SchemeEntry}
 use Rattle.rules.specs.Text.{uriText}
-use Rattle.rules.specs.Options.{CoapOption, options, optionsFrom, coapScheme, readOptions, Codable}
+use Rattle.rules.specs.Options.{CoapOption, option, uriHost, options, optionsFrom, coapScheme, readOptions, Codable}
 use Rattle.rules.specs.Writing.{allTexts, Sized, counted, inside}
 use Rattle.rules.specs.Calls.{lengthOf, outcome, after, readCall, resolveCall, textCall, optionsCall, writeCall}
 use Rattle.rules.specs.Views.{segmentView, Piece, ofReference, ofBase, authorityView, segmentShown, pieceShown, verdict}
-use Rattle.rules.specs.Cases.{AllHold, B, starred, unstarred, longBase, slips, steps, refusals, accepted, sizes, answeredRefusal, texts, answeredText, escaped, answeredEscape, requests, answeredRequest, codings, answeredCoding, addresses, ipv6Printed, segmentRows, answeredSegment, authorityRows, answeredAuthority, bases, answeredBase}
+use Rattle.rules.specs.Cases.{AllHold, B, starred, unstarred, longBase, slips, steps, refusals, accepted, sizes, answeredRefusal, texts, answeredText, escaped, answeredEscape, requests, answeredRequest, codings, answeredCoding, addresses, ipv6Printed, segmentRows, answeredSegment, authorityRows, answeredAuthority, bases, answeredBase, labelBytes, answeredByte}
 
 -- ---- the reader accepts exactly the encodings of valid references, and gives them back
 
@@ -37,6 +38,13 @@ abbrev pub Exact : Type 0
 Exact =
     (lim : Limits) → lim .segments < 2 ^ 64 → (bs : Bytes) (r : Reference) → Octets bs
     → (readReference lim bs ≡ ok r) ↔ ((encode r ≡ bs) × Valid lim r)
+
+-- the amended rule on labels takes away exactly the references with "[" or "]" in a label: an input is accepted exactly if it is the encoding
+-- of a reference that was valid before, by `EarlierValid`, and has no such label
+abbrev pub Brackets : Type 0
+Brackets =
+    (lim : Limits) → lim .segments < 2 ^ 64 → (bs : Bytes) (r : Reference) → Octets bs
+    → (readReference lim bs ≡ ok r) ↔ ((encode r ≡ bs) × EarlierValid lim r × NoBrackets r)
 
 -- every refusal of the reader is numbered 1 to 7
 abbrev pub Numbers : Type 0
@@ -302,6 +310,12 @@ OptionsRead =
     (lim : Limits) (bs toAddress : Bytes) (toPort : ℕ) (w : Bytes) → Octets bs → optionsCall lim bs toAddress toPort ≡ ok w
     → Requested lim bs toAddress toPort w
 
+-- the reason for that rule: two hosts with the same Uri-Host, neither being the destination's address, which has none, are the same host
+abbrev pub HostDetermined : Type 0
+HostDetermined =
+    (h k : Host Bytes) (toAddress value : Bytes) → GoodHost h → GoodHost k → uriHost h toAddress ≡ option 3 value ∷ [] → uriHost k toAddress ≡ option 3 value ∷ []
+    → h ≡ k
+
 -- for an n-byte encoding the options are never longer than 2n + 16 bytes, so a room of that length is enough
 abbrev pub OptionsBound : Type 0
 OptionsBound =
@@ -316,7 +330,7 @@ abbrev pub Starred : Type 0
 Starred = AllHold B starred
 
 -- the remaining rows, the two slips, each item of a reference, refusals with their places, accepted inputs, sizes, texts, escapes, options,
--- option bytes read back, IPv6 texts, views and refused bases, one statement
+-- option bytes read back, IPv6 texts, views, refused bases and bytes of labels, one statement
 pub record Examples : Type 0 where
   pub rows : AllHold B unstarred
   pub slipped : AllHold longBase slips
@@ -332,3 +346,4 @@ pub record Examples : Type 0 where
   pub segments : map answeredSegment segmentRows ≡ segmentRows
   pub authorities : map answeredAuthority authorityRows ≡ authorityRows
   pub bases : map answeredBase bases ≡ bases
+  pub labelBytes : map answeredByte labelBytes ≡ labelBytes

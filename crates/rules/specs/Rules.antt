@@ -78,9 +78,9 @@ schemeRule t = startsLower t && (all schemeByte t && all (λ (e : SchemeEntry). 
 
 -- ---- RULES 1.9, 1.10: labels and segments
 
--- a label holds no "." and no A to Z
+-- a label holds no ".", no A to Z, no "[" and no "]"
 unfoldable pub labelByte : ℕ → Bool
-labelByte b = not (eqb b dot) && not (upper b)
+labelByte b = not (eqb b dot) && (not (upper b) && not (member b (ascii "[]")))
 
 -- every byte of a label
 unfoldable pub labelRule : Bytes → Bool

@@ -95,11 +95,17 @@ fn scheme_form(s: &[u8], from: usize, n: usize) -> bool
     false
 }
 
-// Neither "." nor A to Z.
+// Neither ".", "[" nor "]", nor A to Z.
 fn label_byte(b: u8) -> bool
     ensures { λ r. ⌜ r ≡ labelByte b ⌝ }
 {
     if b == 0x2e {
+        return false;
+    }
+    if b == 0x5b {
+        return false;
+    }
+    if b == 0x5d {
         return false;
     }
     !inside(b, 0x41, 0x5a)

@@ -28,7 +28,7 @@ fn say_meaning(fd: i32, number: u8) {
         numbers::TEXT => say_to(fd, b"TEXT: a text that is not UTF-8 (rules 3.2, 1.11)"),
         numbers::RULE => say_to(
             fd,
-            b"RULE: an unknown scheme number, or a broken rule of a scheme, a label, a segment or all labels (rules 3.2, 1.6, 1.7, 1.9, 1.10, 2.5)",
+            b"RULE: a scheme number that is not in the table; a scheme text that is in it, or is no scheme; a label with \".\", A to Z, \"[\" or \"]\"; labels that look like an IPv4 address or are too long together; the segment \".\" or \"..\" (rules 3.2, 1.6, 1.7, 1.9, 1.10, 2.5)",
         ),
         numbers::TAIL => say_to(fd, b"TAIL: bytes after the array (rules 3.2, 4.9)"),
         numbers::BASE => say_to(
