@@ -1,7 +1,7 @@
 -- What is written is read again with the same contents.
 use Prim.Native.Nat.{ℕ, _^_, _≤_, _<_}
 use native.Mathlib.Omega.{arith}
-use mathlib.Core.Path.{_≡_, refl, sym, ap, ap₂, _∙_}
+use mathlib.Core.Path.{_≡_, sym, ap, ap₂, _∙_}
 use mathlib.Core.List.{List}
 use lib.ListN.{length, take}
 use mir.Val.{Val}
@@ -9,7 +9,6 @@ use denote.Laws.{Is}
 use denote.Enum.Declared as Enum
 use denote.Struct.Declared as Struct
 use Rattle.rules.specs.Bytes.{Bytes, Octets}
-use Rattle.rules.specs.Model as Model
 use Rattle.rules.specs.Model.{limits, mapParts}
 use Rattle.rules.specs.Reader.{taken}
 use Rattle.rules.specs.Valid.{If}

@@ -1,17 +1,17 @@
 -- What the amended rule on labels takes away.
 use Prim.Native.Nat.{ℕ}
-use mathlib.Core.Path.{_≡_, refl, ap, ap₂, _∙_}
-use mathlib.Core.Bool.{Bool, true, _&&_, not}
+use mathlib.Core.Path.{_≡_, refl}
+use mathlib.Core.Bool.{true, _&&_, not}
 use mathlib.Core.List.{List, [], _∷_}
 use mathlib.Core.Option.{none, some}
 use lib.Dec.{eqb}
-use Rattle.rules.specs.Bytes.{Bytes, ascii, dot, Each, all, member}
+use Rattle.rules.specs.Bytes.{Bytes, dot, Each, all}
 use Rattle.rules.specs.Model.{Host, address, labels, Opening, discard, discardAll, full, Reference, Limits}
 use Rattle.rules.specs.Rules.{upper, labelByte, labelRule, label}
-use Rattle.rules.specs.Valid.{Good, GoodHost, GoodOpening, Valid}
+use Rattle.rules.specs.Valid.{Good, HostBy, OpeningBy, GoodHost, GoodOpening, Valid}
 use Rattle.rules.specs.Writing.{labelsOf, openingLabels}
-use Rattle.rules.specs.Amended.{earlierByte, earlierLabel, EarlierHost, EarlierOpening, EarlierValid, noBracket, NoBrackets}
-use Rattle.rules.proofs.Tools.{by-test, never, and-left, and-right}
+use Rattle.rules.specs.Amended.{earlierByte, earlierLabel, EarlierValid, noBracket, NoBrackets}
+use Rattle.rules.proofs.Tools.{by-test, and-left, and-right}
 
 -- of one byte
 byte-both : (b : ℕ) → labelByte b ≡ (earlierByte b && noBracket b)
@@ -52,19 +52,19 @@ texts-later (t ∷ ts) g h =
     (record { size = g .0 .size; encoded = g .0 .encoded; rule = text-later t (g .0 .rule) (h .0) }, texts-later ts (g .1) (h .1))
 
 -- of a host
-host-earlier : (h : Host Bytes) → GoodHost h → EarlierHost h × Each (λ t. all noBracket t ≡ true) (labelsOf h)
+host-earlier : (h : Host Bytes) → GoodHost h → HostBy earlierLabel h × Each (λ t. all noBracket t ≡ true) (labelsOf h)
 host-earlier (address a) g = (g, tt)
 host-earlier (labels ts) g =
     let both = texts-earlier ts (g .texts .each) in
     (record { texts = record { count = g .texts .count; each = both .0 }; name = g .name }, both .1)
 
-host-later : (h : Host Bytes) → EarlierHost h → Each (λ t. all noBracket t ≡ true) (labelsOf h) → GoodHost h
+host-later : (h : Host Bytes) → HostBy earlierLabel h → Each (λ t. all noBracket t ≡ true) (labelsOf h) → GoodHost h
 host-later (address a) g n = g
 host-later (labels ts) g n =
     record { texts = record { count = g .texts .count; each = texts-later ts (g .texts .each) n }; name = g .name }
 
 -- of an opening
-opening-earlier : (o : Opening Bytes) → GoodOpening o → EarlierOpening o × Each (λ t. all noBracket t ≡ true) (openingLabels o)
+opening-earlier : (o : Opening Bytes) → GoodOpening o → OpeningBy earlierLabel o × Each (λ t. all noBracket t ≡ true) (openingLabels o)
 opening-earlier (discard k) g = (g, tt)
 opening-earlier discardAll g = (tt, tt)
 opening-earlier (full s none) g = absurd g
@@ -72,7 +72,7 @@ opening-earlier (full s (some a)) g =
     let both = host-earlier (a .host) (g .1 .host) in
     ((g .0, record { host = both .0; port = g .1 .port }), both .1)
 
-opening-later : (o : Opening Bytes) → EarlierOpening o → Each (λ t. all noBracket t ≡ true) (openingLabels o) → GoodOpening o
+opening-later : (o : Opening Bytes) → OpeningBy earlierLabel o → Each (λ t. all noBracket t ≡ true) (openingLabels o) → GoodOpening o
 opening-later (discard k) g n = g
 opening-later discardAll g n = tt
 opening-later (full s none) g n = absurd g

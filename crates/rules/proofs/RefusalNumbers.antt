@@ -1,6 +1,5 @@
 -- The reader's refusals are numbered 1 to 7; and what the call of reading answers.
 use Prim.Native.Nat.{ℕ, zero, suc, _≤_}
-use native.Mathlib.Omega.{arith}
 use mathlib.Core.Path.{_≡_, refl, subst, _∙_}
 use mathlib.Core.Bool.{Bool, true, false}
 use Rattle.rules.specs.Bytes.{Bytes, within}

@@ -8,7 +8,7 @@ use mathlib.Core.Option.{none, some}
 use lib.ListN.{length, take, drop, getElem?}
 use Rattle.rules.specs.Bytes.{Bytes, Octets, all, hex}
 use Rattle.rules.specs.Result.{Res, refused, ok, CUT, TAIL, RESULT}
-use Rattle.rules.specs.Model.{Host, Authority, discard, full, Span, Reference, absolute, Components, mapParts, Limits, elements, Cri, reference, normalPath, normal, Same}
+use Rattle.rules.specs.Model.{Host, Authority, discard, Span, Reference, absolute, Components, mapParts, Limits, elements, Cri, reference, normalPath, normal, Same}
 use Rattle.rules.specs.Reader.{taken, Found, read}
 use Rattle.rules.specs.Meaning.{span, components, readReference, readAbsolute}
 use Rattle.rules.specs.Encode.{authorityItem, encode}

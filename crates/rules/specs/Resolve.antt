@@ -6,9 +6,8 @@ use mathlib.Core.Option.{Option, none, some, Option·getD}
 use lib.ListN.{length, take}
 use lib.Dec.{leb}
 use Rattle.rules.specs.Bytes.{Bytes}
-use Rattle.rules.specs.Result.{Res, refused, ok, need, _>>=_, _>>_, BASE, RESULT}
+use Rattle.rules.specs.Result.{Res, refused, ok, BASE}
 use Rattle.rules.specs.Model.{Scheme, Authority, Opening, discard, discardAll, full, Reference, Limits, Cri, reference, normalPath, normal}
-use Rattle.rules.specs.Meaning.{readReference, readAbsolute}
 use Rattle.rules.specs.Encode.{encode}
 
 -- 5.0 The base loses its fragment, and a path of one empty segment becomes no path.

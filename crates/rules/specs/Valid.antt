@@ -33,23 +33,25 @@ pub record GoodAddress (a : Bytes) : Type 0 where
   pub size : (eqb (length a) 4 || eqb (length a) 16) ≡ true
   pub octets : Octets a
 
+-- From here on l is the sort of labels: `label`, or that of a rule which was amended (Amended).
+
 -- 2.5: 1 to `mostLabels` labels, and the rules over all of them
-pub record GoodLabels (ts : List Bytes) : Type 0 where
-  pub texts : GoodTexts label 1 mostLabels ts
+pub record LabelsBy (l : Sort) (ts : List Bytes) : Type 0 where
+  pub texts : GoodTexts l 1 mostLabels ts
   pub name : nameRule ts ≡ true
 
 -- 1.8: an address or labels
-abbrev pub GoodHost : Host Bytes → Type 0
-GoodHost (address a) = GoodAddress a
-GoodHost (labels ts) = GoodLabels ts
+abbrev pub HostBy : Sort → Host Bytes → Type 0
+HostBy l (address a) = GoodAddress a
+HostBy l (labels ts) = LabelsBy l ts
 
 -- 2.6: a port up to 65535, or none
 abbrev pub GoodPort : Option ℕ → Type 0
 GoodPort = If (λ p. p ≤ 65535)
 
 -- 1.8, 2.6: a host, and a port up to 65535
-pub record GoodAuthority (a : Authority Bytes) : Type 0 where
-  pub host : GoodHost (a .host)
+pub record AuthorityBy (l : Sort) (a : Authority Bytes) : Type 0 where
+  pub host : HostBy l (a .host)
   pub port : GoodPort (a .port)
 
 -- 1.6, 1.7: a number of the table, or a text
@@ -58,16 +60,38 @@ GoodScheme (number n) = knownScheme n ≡ true
 GoodScheme (name t) = Good schemeName t
 
 -- 1.2, 1.3: a discard up to 127; beside a scheme, or none, an authority is required
-abbrev pub GoodOpening : Opening Bytes → Type 0
-GoodOpening (discard k) = k ≤ 127
-GoodOpening discardAll = Unit {0}
-GoodOpening (full s none) = ⊥
-GoodOpening (full s (some a)) = If GoodScheme s × GoodAuthority a
+abbrev pub OpeningBy : Sort → Opening Bytes → Type 0
+OpeningBy l (discard k) = k ≤ 127
+OpeningBy l discardAll = Unit {0}
+OpeningBy l (full s none) = ⊥
+OpeningBy l (full s (some a)) = If GoodScheme s × AuthorityBy l a
 
 -- a reference that keeps the rules, and whose encoding is not too long
-pub record Valid (lim : Limits) (r : Reference) : Type 0 where
-  pub opening : GoodOpening (r .opening)
+pub record ValidBy (l : Sort) (lim : Limits) (r : Reference) : Type 0 where
+  pub opening : OpeningBy l (r .opening)
   pub path : If (GoodTexts segment 0 (lim .segments)) (r .path)
   pub query : If (GoodTexts parameter 1 mostParameters) (r .query)
   pub fragment : If (Good fragmentText) (r .fragment)
   pub size : length (encode r) ≤ lim .bytes
+
+-- ---- the rules in force
+
+-- labels
+abbrev pub GoodLabels : List Bytes → Type 0
+GoodLabels = LabelsBy label
+
+-- a host
+abbrev pub GoodHost : Host Bytes → Type 0
+GoodHost = HostBy label
+
+-- an authority
+abbrev pub GoodAuthority : Authority Bytes → Type 0
+GoodAuthority = AuthorityBy label
+
+-- an opening
+abbrev pub GoodOpening : Opening Bytes → Type 0
+GoodOpening = OpeningBy label
+
+-- a reference
+abbrev pub Valid : Limits → Reference → Type 0
+Valid = ValidBy label

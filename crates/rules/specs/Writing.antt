@@ -1,5 +1,5 @@
 -- RULES 9: what writing from components asks of them.
-use Prim.Native.Nat.{ℕ, _+_, _^_, _<_}
+use Prim.Native.Nat.{_+_, _^_, _<_}
 use mathlib.Core.Path.{_≡_}
 use mathlib.Core.Bool.{Bool, true, _&&_}
 use mathlib.Core.List.{List, [], _∷_, _++_}
@@ -7,11 +7,8 @@ use mathlib.Core.Option.{Option, none, some}
 use lib.ListN.{length}
 use lib.Dec.{leb}
 use Rattle.rules.specs.Bytes.{Bytes, all}
-use Rattle.rules.specs.Result.{Res, refused, ok, need, _>>=_, _>>_, LIMIT}
-use Rattle.rules.specs.Model.{Scheme, number, name, Host, address, labels, Opening, discard, discardAll, full, Parts, Span, Components, mapParts, Limits, elements, mostLabels, mostParameters}
-use Rattle.rules.specs.Reader.{taken, Found, read}
-use Rattle.rules.specs.Meaning.{components}
-use Rattle.rules.specs.Encode.{encode}
+use Rattle.rules.specs.Result.{Res, refused, ok}
+use Rattle.rules.specs.Model.{Scheme, number, name, Host, address, labels, Opening, discard, discardAll, full, Parts, Span, Components, Limits, elements, mostLabels, mostParameters}
 use Rattle.rules.specs.Valid.{If}
 
 -- ---- the texts and addresses of the parts of a reference

@@ -5,7 +5,6 @@ use mathlib.Core.Path.{_≡_, refl, sym, ap, ap₂, _∙_}
 use mathlib.Core.Bool.{Bool, true, false}
 use mathlib.Core.List.{[], _∷_}
 use mathlib.Core.Logic.{_↔_}
-use mathlib.Core.Option.{Option, none, some}
 use lib.ListN.{length, take}
 use lib.Dec.{eqb}
 use borrow.Author.Tests.{eqb-true}
@@ -15,7 +14,7 @@ use Rattle.rules.specs.Model.{Limits, limits, Cri, Same}
 use Rattle.rules.specs.Meaning.{readAbsolute}
 use Rattle.rules.specs.Text.{uriText}
 use Rattle.rules.specs.Views.{verdict}
-use Rattle.rules.specs.Calls.{numberOf, lengthOf, outcome, after, textCall}
+use Rattle.rules.specs.Calls.{numberOf, lengthOf, outcome, textCall}
 use Rattle.rules.specs.Promises.{shown, base-own, base-relative}
 use Rattle.rules.proofs.Tools.{never, and-left, and-right, same-refl}
 use Rattle.rules.proofs.Steps.{refused-ok}

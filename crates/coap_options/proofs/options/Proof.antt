@@ -2,7 +2,6 @@
 use native.Mathlib.Omega.{arith}
 use mathlib.Core.Path.{sym, ap, _∙_}
 use denote.Ref.{now}
-use lib.ListN.{length}
 use Rattle.rules.proofs.Tools.{octets-of}
 use Rattle.outcomes.proofs.Answers.{right-refused, right-as}
 use Rattle.reader.specs.Answers.{answerIs}

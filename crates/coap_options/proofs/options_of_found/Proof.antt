@@ -1,6 +1,5 @@
 -- `coap_options::options_of_found` meets its contract.
 use mathlib.Core.Path.{sym, ap, _∙_}
-use denote.Ref.{now}
 use Rattle.outcomes.proofs.Answers.{right-refused, right-as}
 use Rattle.reader.specs.Answers.{schemeOf, openingOf}
 use Rattle.coap_options.proofs.CallCases.{answers-discard, answers-all, answers-none, answers-number, answers-name, full-asks}

@@ -1,10 +1,7 @@
 -- `sameness::wrote_same` meets its contract.
-use Prim.Native.Nat.{_≤_}
 use native.Mathlib.Omega.{arith}
-use mathlib.Core.Path.{_≡_, sym, ap}
-use lib.ListN.{length}
+use mathlib.Core.Path.{sym, ap}
 use lib.Seq.{length-take-le}
-use denote.Ref.{now}
 use Rattle.rules.specs.Calls.{lengthOf}
 use Rattle.outcomes.specs.declared.Outcome.{Outcome}
 use Rattle.outcomes.specs.Answers.{outcomeIs}
