@@ -1,5 +1,5 @@
 // Mixed links, as gateways send them: absolute ones with addresses or names, references to resolve, texts of ASCII and of other characters, some damaged.
-use crate::Random;
+use crate::{address, Random};
 
 fn head(out: &mut Vec<u8>, major: u8, n: u64) {
     let major = major << 5;
@@ -227,6 +227,19 @@ pub fn addressed(n: usize) -> Vec<Vec<u8>> {
                 let group = if random.below(10) < 4 { 0 } else { random.next() as u16 >> (4 * random.below(4)) };
                 authority.extend(group.to_be_bytes());
             }
+            let path = words(&mut random, 2);
+            joined(vec![vec![0x20], authority], [Some(path), None, None])
+        })
+        .collect()
+}
+
+// So many absolute links with an IPv4-mapped address and a short path.
+pub fn mapped(n: usize) -> Vec<Vec<u8>> {
+    let mut random = Random::new();
+    (0..n)
+        .map(|_| {
+            let mut authority = vec![0x81, 0x50];
+            authority.extend(address::mapped(&mut random));
             let path = words(&mut random, 2);
             joined(vec![vec![0x20], authority], [Some(path), None, None])
         })

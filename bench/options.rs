@@ -106,7 +106,8 @@ pub fn measure() {
     for input in mixed(10_000).iter().chain(&accepted(4096)) {
         agree(input, &WRITTEN);
     }
-    let links = [SIZES.map(sized).concat(), SEGMENTS.map(segmented).concat(), LABELS.map(named).concat(), links::addressed(4096)].concat();
+    let made = [SIZES.map(sized).concat(), SEGMENTS.map(segmented).concat(), LABELS.map(named).concat()].concat();
+    let links = [made, links::addressed(4096), links::mapped(4096)].concat();
     for input in near(links.clone()).iter().chain(&far(links)) {
         agree(input, &WRITTEN);
     }

@@ -87,6 +87,7 @@ fn measure_in(lend: fn(Vec<Vec<u8>>) -> Vec<Input>) {
     compare("mixed links", &[10_000], |n| lend(links::mixed(n)), &CALLS);
     compare("escaped links", &[4096], |n| lend(links::escaped(n)), &CALLS);
     compare("IPv6 links", &[4096], |n| lend(links::addressed(n)), &CALLS);
+    compare("mapped links", &[4096], |n| lend(links::mapped(n)), &CALLS);
     compare("segments", &SEGMENTS, |n| lend(segmented(n)), &CALLS);
     compare("bytes of a link", &SIZES, |n| lend(sized(n)), &CALLS);
 }
@@ -95,7 +96,8 @@ pub fn measure() {
     for pair in &links::pairs(10_000) {
         agree(pair, &BOTH_WRITTEN);
     }
-    let inputs = [links::mixed(10_000), links::escaped(4096), links::addressed(4096), SEGMENTS.map(segmented).concat(), SIZES.map(sized).concat()].concat();
+    let made = [links::mixed(10_000), links::escaped(4096), links::addressed(4096), links::mapped(4096)].concat();
+    let inputs = [made, SEGMENTS.map(segmented).concat(), SIZES.map(sized).concat()].concat();
     for link in roomy(inputs.clone()).iter().chain(&exact(inputs)) {
         agree(link, &WRITTEN);
     }

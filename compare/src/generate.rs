@@ -75,14 +75,14 @@ fn segment_request(random: &mut Random) -> String {
 /// Bytes to read: a reference, one with faults, or no reference at all.
 fn input(random: &mut Random) -> Input {
     match random.below(1000) {
-        0..315 => Input::of(reference::reference(random, 0)),
-        315..330 => {
+        0..300 => Input::of(reference::reference(random, 0)),
+        300..330 => {
             let mut made = reference::bracketed(random);
             match random.below(10) {
                 0 => damage::damage(random, &mut made.encoded),
-                1 => damage::damage_one_head(random, &mut made.encoded),
+                1..3 => damage::damage_one_head(random, &mut made.encoded),
                 // Mostly in the authority.
-                2..4 => made.encoded.bytes.truncate(random.index(40)),
+                3..5 => made.encoded.bytes.truncate(random.index(40)),
                 _ => {}
             }
             Input::of(made)
@@ -97,13 +97,13 @@ fn input(random: &mut Random) -> Input {
             damage::append(random, &mut input.bytes);
             input
         }
-        700..840 => {
+        700..830 => {
             let slips = random.pick(&[0, 0, 0, 1]);
             let mut made = reference::reference(random, slips);
             damage::damage(random, &mut made.encoded);
             Input::of(made)
         }
-        840..880 => Input::of(reference::not_utf8(random)),
+        830..880 => Input::of(reference::not_utf8(random)),
         880..960 => {
             let mut made = reference::reference(random, 0);
             damage::damage_one_head(random, &mut made.encoded);

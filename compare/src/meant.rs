@@ -49,6 +49,10 @@ fn printed(address: &[u8]) -> String {
         let octets: Vec<String> = address.iter().map(u8::to_string).collect();
         return octets.join(".");
     }
+    // IPv4-mapped.
+    if let Some(octets) = address.strip_prefix(&[0, 0, 0, 0, 0, 0, 0, 0, 0, 0, 0xFF, 0xFF]) {
+        return format!("[::ffff:{}]", printed(octets));
+    }
     let groups: Vec<String> = address
         .chunks(2)
         .map(|pair| format!("{:x}", u16::from(pair[0]) * 256 + u16::from(pair[1])))

@@ -242,6 +242,12 @@ impl<const MAX: usize> Short<MAX> {
         self.length += 1;
     }
 
+    fn extend(&mut self, text: &[u8]) {
+        let end = self.length + text.len();
+        self.bytes[self.length..end].copy_from_slice(text);
+        self.length = end;
+    }
+
     fn decimal(&mut self, number: u16) {
         for power in [10_000, 1000, 100, 10] {
             if number >= power {
@@ -276,10 +282,14 @@ impl<const MAX: usize> Short<MAX> {
         }
         self.push(b'[');
         match zeros(&groups) {
+            // IPv4-mapped: ten bytes of 0, then two of FF.
+            Some((0, 5)) if groups[5] == 0xFFFF => {
+                self.extend(b"::ffff:");
+                self.ipv4(&address[12..]);
+            }
             Some((start, end)) => {
                 self.groups(&groups[..start]);
-                self.push(b':');
-                self.push(b':');
+                self.extend(b"::");
                 self.groups(&groups[end..]);
             }
             None => self.groups(&groups),

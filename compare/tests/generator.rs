@@ -624,6 +624,28 @@ fn groups(reference: &Reference) -> Vec<u16> {
     }
 }
 
+/// The first twelve bytes of an IPv4-mapped address.
+const MAPPED: [u8; 12] = [0, 0, 0, 0, 0, 0, 0, 0, 0, 0, 0xFF, 0xFF];
+
+/// The last four bytes of an IPv4-mapped address.
+fn mapped<'a>(reference: &Reference<'a>) -> Option<&'a [u8]> {
+    address(reference).strip_prefix(&MAPPED)
+}
+
+/// The byte in which an address is one bit off a mapped one.
+fn one_bit_off(reference: &Reference) -> Option<usize> {
+    let pairs = address(reference).iter().zip(&MAPPED);
+    let bits: Vec<_> = pairs.map(|(a, b)| (a ^ b).count_ones()).collect();
+    let place = bits.iter().position(|&count| count == 1)?;
+    (bits.len() == MAPPED.len() && bits.iter().sum::<u32>() == 1).then_some(place)
+}
+
+/// Bytes in dotted decimal.
+fn dotted(octets: &[u8]) -> String {
+    let octets: Vec<_> = octets.iter().map(u8::to_string).collect();
+    octets.join(".")
+}
+
 /// The lengths of the runs of zero groups, in order.
 fn runs(reference: &Reference) -> Vec<usize> {
     groups(reference)
@@ -650,7 +672,7 @@ fn has_default_port(reference: &Reference) -> bool {
 
 #[test]
 fn every_sort_of_reference_is_printed() {
-    let properties: [Property; 27] = [
+    let properties: [Property; 31] = [
         ("scheme text", |r| {
             matches!(scheme(r), Some(Scheme::Text(_)))
         }),
@@ -674,8 +696,16 @@ fn every_sort_of_reference_is_printed() {
         ("a group with leading zeros", |r| {
             groups(r).iter().any(|group| (1..0x1000).contains(group))
         }),
-        ("a mapped address", |r| {
-            groups(r).starts_with(&[0, 0, 0, 0, 0, 0xFFFF])
+        ("a mapped address of zeros", |r| mapped(r) == Some(&[0; 4])),
+        ("a mapped address of 255", |r| mapped(r) == Some(&[255; 4])),
+        ("eleven zero bytes and FF", |r| {
+            groups(r).starts_with(&[0, 0, 0, 0, 0, 0xFF])
+        }),
+        ("an IPv4-compatible address", |r| {
+            groups(r).starts_with(&[0; 6]) && groups(r)[6] != 0
+        }),
+        ("an IPv4-translated address", |r| {
+            groups(r).starts_with(&[0, 0, 0, 0, 0xFFFF, 0])
         }),
         ("port 0", |r| port(r) == Some(0)),
         ("port 9", |r| port(r) == Some(9)),
@@ -715,8 +745,16 @@ fn every_sort_of_reference_is_printed() {
         assert!(often >= 5, "scheme {number}: {often} times");
     }
     for octet in [0, 9, 10, 99, 100, 255] {
-        let often = often(&|r| address(r).len() == 4 && address(r).contains(&octet));
-        assert!(often >= 5, "octet {octet}: {often} times");
+        let alone = often(&|r| address(r).len() == 4 && address(r).contains(&octet));
+        assert!(alone >= 5, "octet {octet}: {alone} times");
+        for place in 0..4 {
+            let mapped = often(&|r| mapped(r).is_some_and(|last| last[place] == octet));
+            assert!(mapped >= 5, "octet {octet}, mapped: {mapped} times");
+        }
+    }
+    for place in 0..12 {
+        let often = often(&|r| one_bit_off(r) == Some(place));
+        assert!(often >= 5, "byte {place} one bit off: {often} times");
     }
 }
 
@@ -834,7 +872,7 @@ fn escaped(first: &[&str], second: &[&str]) -> Option<u8> {
 
 #[test]
 fn every_sort_of_pair_is_compared() {
-    let properties: [SameProperty; 31] = [
+    let properties: [SameProperty; 35] = [
         ("nothing", |a, b| differences(a, b).is_empty()),
         ("scheme", |a, b| differences(a, b) == ["scheme"]),
         ("host", |a, b| differences(a, b) == ["host"]),
@@ -852,6 +890,22 @@ fn every_sort_of_pair_is_compared() {
         }),
         ("4 and 16 bytes", |a, b| {
             differences(a, b) == ["host"] && address(a).len() == 4 && address(b).len() == 16
+        }),
+        ("a mapped address and the 4 bytes in it", |a, b| {
+            differences(a, b) == ["host"] && mapped(a) == Some(address(b))
+        }),
+        ("a mapped address and one bit off it", |a, b| {
+            differences(a, b) == ["host"]
+                && mapped(a).is_some_and(|last| address(b).ends_with(last))
+                && one_bit_off(b).is_some()
+        }),
+        ("a mapped address and a compatible one", |a, b| {
+            let compatible = |last: &[u8]| address(b) == [&[0; 12], last].concat();
+            differences(a, b) == ["host"] && mapped(a).is_some_and(compatible)
+        }),
+        ("a mapped address and labels that read so", |a, b| {
+            let reads_so = |last| labels(b).join(".") == format!("::ffff:{}", dotted(last));
+            differences(a, b) == ["host"] && mapped(a).is_some_and(reads_so)
         }),
         ("the default port left off", |a, b| {
             differences(a, b) == ["port"] && port(a).is_none() && has_default_port(b)
@@ -1052,6 +1106,10 @@ impl<'a> Link<'a> {
         address(&self.reference)
     }
 
+    fn mapped(&self) -> Option<&'a [u8]> {
+        mapped(&self.reference)
+    }
+
     fn has_host(&self) -> bool {
         self.own_address() != self.address
     }
@@ -1090,7 +1148,7 @@ type LinkProperty = (&'static str, fn(&Link) -> bool);
 
 #[test]
 fn every_sort_of_link_is_asked() {
-    let properties: [LinkProperty; 38] = [
+    let properties: [LinkProperty; 43] = [
         ("the same address of 4 bytes", |l| {
             l.differences() == Some(0) && l.address.len() == 4
         }),
@@ -1110,8 +1168,22 @@ fn every_sort_of_link_is_asked() {
             l.differences() == Some(1) && l.address.last() != l.own_address().last()
         }),
         ("4 bytes to a mapped address", |l| {
-            let mapped = [&[0; 10][..], &[0xFF; 2], l.own_address()].concat();
-            l.own_address().len() == 4 && l.address == mapped
+            l.own_address().len() == 4 && l.address == [&MAPPED, l.own_address()].concat()
+        }),
+        ("a mapped address, the same", |l| {
+            l.mapped().is_some() && !l.has_host()
+        }),
+        ("a mapped address to the 4 bytes in it", |l| {
+            l.mapped() == Some(l.address)
+        }),
+        ("a mapped address, one of the first bytes differs", |l| {
+            l.differences() == Some(1) && l.mapped().is_some_and(|last| l.address.ends_with(last))
+        }),
+        ("a mapped address, one of the last bytes differs", |l| {
+            l.differences() == Some(1) && l.mapped().is_some() && l.address.starts_with(&MAPPED)
+        }),
+        ("one bit off a mapped address, to that one", |l| {
+            l.differences() == Some(1) && l.mapped().is_none() && l.address.starts_with(&MAPPED)
         }),
         ("16 bytes to their last 4", |l| {
             l.own_address().len() == 16 && l.own_address().ends_with(l.address) && l.has_host()
@@ -1236,8 +1308,13 @@ fn every_sort_of_link_is_asked() {
     }
     for length in [12, 13, 14] {
         reached(format!("an address text of {length}"), &|l| {
-            let octets: Vec<_> = l.own_address().iter().map(u8::to_string).collect();
-            octets.len() == 4 && l.has_host() && octets.join(".").len() == length
+            let address = l.own_address();
+            address.len() == 4 && l.has_host() && dotted(address).len() == length
+        });
+    }
+    for length in [7, 15] {
+        reached(format!("a mapped address, {length} bytes dotted"), &|l| {
+            l.has_host() && l.mapped().is_some_and(|last| dotted(last).len() == length)
         });
     }
     // All combinations of options, and with them each difference of two numbers.

@@ -252,9 +252,9 @@ fn ipv4() {
     prints("82 20 81 44 64C7FFFF", "coap://100.199.255.255/");
 }
 
-fn printed_ipv6(groups: [u16; 8]) -> String {
-    let address: Vec<u8> = groups.into_iter().flat_map(u16::to_be_bytes).collect();
-    let text = printed(&[bytes("82 20 81 50"), address].concat()).expect("an address");
+fn printed_ipv6(address: impl Into<Ipv6Addr>) -> String {
+    let address = address.into().octets();
+    let text = printed(&[&bytes("82 20 81 50"), &address[..]].concat()).expect("an address");
     let host = text.strip_prefix("coap://[");
     let host = host.and_then(|text| text.strip_suffix("]/"));
     host.expect("brackets").to_string()
@@ -287,16 +287,29 @@ fn ipv6() {
             ],
             "abcd:ef01:2345:6789:abcd:ef01:2345:6789",
         ),
-        // No dotted form, for any address.
-        ([0, 0, 0, 0, 0, 0xFFFF, 0xC000, 0x201], "::ffff:c000:201"),
-        ([0, 0, 0, 0, 0, 0xFFFF, 0, 0], "::ffff:0:0"),
+        // IPv4-mapped.
+        ([0, 0, 0, 0, 0, 0xFFFF, 0xC000, 0x201], "::ffff:192.0.2.1"),
+        ([0, 0, 0, 0, 0, 0xFFFF, 0, 0], "::ffff:0.0.0.0"),
+        ([0, 0, 0, 0, 0, 0xFFFF, 0xA64, 0xFF], "::ffff:10.100.0.255"),
+        // No other one is dotted.
+        ([0, 0, 0, 0, 0, 0xFFFE, 0xC000, 0x201], "::fffe:c000:201"),
+        ([0, 0, 0, 0, 0, 0xFEFF, 0xC000, 0x201], "::feff:c000:201"),
+        ([0, 0, 0, 0, 0, 0x7FFF, 0xC000, 0x201], "::7fff:c000:201"),
+        ([0, 0, 0, 0, 0, 0xFF, 0xC000, 0x201], "::ff:c000:201"),
         ([0, 0, 0, 0, 0, 0, 0xC000, 0x201], "::c000:201"),
+        ([0, 0, 0, 0, 1, 0xFFFF, 0xC000, 0x201], "::1:ffff:c000:201"),
+        (
+            [0x8000, 0, 0, 0, 0, 0xFFFF, 0xC000, 0x201],
+            "8000::ffff:c000:201",
+        ),
+        ([0, 0, 0, 0, 0xFFFF, 0, 0xC000, 0x201], "::ffff:0:c000:201"),
         (
             [0x64, 0xFF9B, 0, 0, 0, 0, 0xC000, 0x201],
             "64:ff9b::c000:201",
         ),
     ] {
         assert_eq!(printed_ipv6(groups), text);
+        assert_eq!(Ipv6Addr::from(groups).to_string(), text);
     }
 }
 
@@ -304,13 +317,47 @@ fn ipv6() {
 #[test]
 fn zero_groups() {
     for zeros in 0..256 {
-        for other in [1, 0xF0, 0xABC, 0x1234] {
+        for other in [1, 0xF0, 0xABC, 0x1234, 0xFFFF] {
             let groups: [u16; 8] =
                 std::array::from_fn(|place| if zeros >> place & 1 == 1 { 0 } else { other });
             let expected = Ipv6Addr::from(groups).to_string();
-            if !expected.contains('.') {
-                assert_eq!(printed_ipv6(groups), expected);
+            assert_eq!(printed_ipv6(groups), expected);
+        }
+    }
+}
+
+/// Every octet of a mapped address, as the library prints it in an address of 4 bytes.
+#[test]
+fn mapped_octets() {
+    for octet in 0..=255 {
+        for place in 0..4 {
+            for other in [0, 7, 10, 255] {
+                let mut address = [other; 4];
+                address[place] = octet;
+                let address = Ipv4Addr::from(address);
+                let text = printed_ipv6(address.to_ipv6_mapped());
+                assert_eq!(text, format!("::ffff:{address}"));
             }
+        }
+    }
+    let mapped = "50 00000000000000000000FFFF C0000201";
+    prints(
+        &format!("82 21 82 {mapped} 19F0B0"),
+        "coaps://[::ffff:192.0.2.1]:61616/",
+    );
+}
+
+/// An address is mapped by all of its first twelve bytes: with any one bit of them changed it is in hex groups.
+#[test]
+fn one_bit_off_a_mapped_address() {
+    for last in [[192, 0, 2, 1], [10, 100, 0, 255], [0; 4], [255; 4]] {
+        let mapped = Ipv4Addr::from(last).to_ipv6_mapped();
+        assert!(printed_ipv6(mapped).contains('.'));
+        for bit in 32..128 {
+            let address = Ipv6Addr::from(u128::from(mapped) ^ 1 << bit);
+            let text = printed_ipv6(address);
+            assert!(!text.contains('.'), "{text}");
+            assert_eq!(text, address.to_string());
         }
     }
 }
@@ -320,6 +367,13 @@ fn every_group() {
     for group in 0..=u16::MAX {
         let text = printed_ipv6([group, 1, 1, 1, 1, 1, 1, group]);
         assert_eq!(text, format!("{group:x}:1:1:1:1:1:1:{group:x}"));
+        let expected = match group {
+            0 => "::c000:201".to_string(),
+            0xFFFF => "::ffff:192.0.2.1".to_string(),
+            _ => format!("::{group:x}:c000:201"),
+        };
+        let text = printed_ipv6([0, 0, 0, 0, 0, group, 0xC000, 0x201]);
+        assert_eq!(text, expected);
     }
 }
 
@@ -341,6 +395,7 @@ fn rooms() {
         bytes("82 20 81 61 68"),
         bytes("85 29 82 61 69 00 82 60 61 20 81 62 C3A9 60"),
         bytes("82 20 81 50 20010DB8000000000001000000000001"),
+        bytes("82 20 81 50 00000000000000000000FFFFC0000201"),
     ];
     for input in inputs {
         let text = printed(&input).expect("a text");
@@ -408,6 +463,14 @@ fn the_bound() {
     ] {
         prints(hex, text);
         assert_eq!(text.len(), 3 * bytes(hex).len() + 4);
+    }
+    // The longest and the shortest text of a mapped address.
+    for (last, length) in [([255; 4], 24), ([0; 4], 16)] {
+        let mapped = Ipv4Addr::from(last).to_ipv6_mapped().octets();
+        let input = [&bytes("82 27 81 50"), &mapped[..]].concat();
+        let text = printed(&input).expect("a text");
+        assert_eq!(text.len(), "coaps+tcp:///".len() + length);
+        assert!(text.len() <= longest(input.len()));
     }
     let mut closest = usize::MAX;
     let mut inputs = 0;
@@ -556,6 +619,15 @@ fn small_authorities_have_one_text_where_they_are_the_same() {
         let address = [vec![0x50], vec![0; 15], vec![last]].concat();
         hosts.push(vec![address]);
     }
+    // What would print as the mapped address does, or as the one of 4 bytes in it, if a rule were left out.
+    hosts.extend([
+        vec![bytes("50 00000000000000000000FFFF01020102")],
+        vec![bytes("50 0000000000000000FFFF000001020102")],
+        vec![bytes("50 00000000000000000000000001020102")],
+        ["::ffff:1", "2", "1", "2"]
+            .map(|label| text_of(label.as_bytes()))
+            .to_vec(),
+    ]);
     let mut inputs = Vec::new();
     for scheme in &schemes {
         for host in &hosts {

@@ -12,6 +12,7 @@ use compare::meant::{meant, words, Meant};
 use compare::options::{options, ENOUGH};
 use encode::{array, bytes, head, text, text_of, texts};
 use not_absolute::NOT_ABSOLUTE;
+use std::net::{Ipv4Addr, Ipv6Addr};
 use told::told;
 
 /// The options, or the number and the place, with room enough.
@@ -241,14 +242,14 @@ fn destinations() {
                 "01020304" => "1.2.3.4",
                 "00000000" => "0.0.0.0",
                 _ if own == ipv6 => "[2001:db8::1:0:0:1]",
-                _ => "[::ffff:102:304]",
+                _ => "[::ffff:1.2.3.4]",
             };
             assert_eq!(to(own, &other), Ok(host(expected)), "{other}");
         }
     }
     // 4 bytes never equal 16.
     assert_eq!(to("01020304", mapped), Ok(host("1.2.3.4")));
-    assert_eq!(to(mapped, "01020304"), Ok(host("[::ffff:102:304]")));
+    assert_eq!(to(mapped, "01020304"), Ok(host("[::ffff:1.2.3.4]")));
     assert_eq!(to("00000000", &"00".repeat(16)), Ok(host("0.0.0.0")));
     assert_eq!(to(&"00".repeat(16), "00000000"), Ok(host("[::]")));
     assert_eq!(to("FFFFFFFF", ipv6), Ok(host("255.255.255.255")));
@@ -260,6 +261,31 @@ fn destinations() {
     // A label is never written as an address is.
     assert_eq!(asked(&named(b"[::]"), &[0; 16], 5683), Err((6, 3)));
     assert_eq!(asked(&named(b"[::]"), &[1; 16], 5683), Err((6, 3)));
+}
+
+/// A mapped address, and all that are one bit off it in the first twelve bytes, to each other and to the 4 bytes in it:
+/// only the same bytes are the destination's.
+#[test]
+fn mapped_destinations() {
+    let inside = Ipv4Addr::new(192, 0, 2, 1);
+    let mapped = inside.to_ipv6_mapped();
+    let near = (32..128).map(|bit| Ipv6Addr::from(u128::from(mapped) ^ 1 << bit));
+    let addresses: Vec<_> = near.chain([mapped]).collect();
+    for own in &addresses {
+        let authority = [&bytes("81 50"), &own.octets()[..]].concat();
+        let input = array(&[bytes("20"), authority]);
+        let text = format!("[{own}]");
+        let host = [head_of(3, text.len()), text.into()].concat();
+        for other in &addresses {
+            let expected = if own == other { &[] } else { &host[..] };
+            let written = asked(&input, &other.octets(), 5683);
+            assert_eq!(written.as_deref(), Ok(expected), "{own} to {other}");
+        }
+        assert_eq!(asked(&input, &inside.octets(), 5683), Ok(host), "{own}");
+    }
+    let link = "82 20 81 50 00000000000000000000FFFFC0000201";
+    let host = "3D 05 5B3A3A666666663A3139322E302E322E315D";
+    gives(link, "C0000201", 5683, host);
 }
 
 /// No byte is escaped.
@@ -331,6 +357,7 @@ fn rooms() {
         bytes("83 20 81 44 01020304 81 60"),
         bytes("84 29 83 61 69 62 C3A9 00 82 60 61 20 81 62 C3A9"),
         bytes("82 20 81 50 20010DB8000000000001000000000001"),
+        bytes("82 20 81 50 00000000000000000000FFFF01020304"),
         [
             bytes("84 20 81 61 68"),
             texts(&[12, 13, 255]),

@@ -142,20 +142,41 @@ impl Link {
 pub fn ipv4(random: &mut Random) -> Vec<u8> {
     let any = random.byte();
     let octets = [0, 1, 9, 10, 19, 99, 100, 199, 200, 249, 250, 255, any];
+    if random.chance(10) {
+        return vec![random.pick(&[0, 255, any]); 4];
+    }
     (0..4).map(|_| random.pick(&octets)).collect()
 }
 
-/// An address of which any groups are zero, and the others have any number of digits.
+/// An address that ends in these 4 bytes: IPv4-mapped, or nearly so.
+pub fn around_mapped(random: &mut Random, ipv4: &[u8]) -> Vec<u8> {
+    let mut start = [0, 0, 0, 0, 0, 0, 0, 0, 0, 0, 0xFF, 0xFF];
+    match random.below(12) {
+        0..6 => {}
+        6..9 => start[random.index(12)] ^= 1 << random.index(8),
+        // Eleven zero bytes and FF.
+        9 => start[10] = 0,
+        // IPv4-compatible.
+        10 => start = [0; 12],
+        // IPv4-translated: the groups 0 0 0 0 ffff 0.
+        _ => start.rotate_left(2),
+    }
+    [&start, ipv4].concat()
+}
+
+/// An address around a mapped one, or one of which any groups are zero, and the others have any number of digits.
 pub fn ipv6(random: &mut Random) -> Vec<u8> {
-    let zeros = match random.below(10) {
-        // The start of those addresses that have a dotted form elsewhere.
-        0 => random.pick(&[0b0001_1111, 0b0011_1111]),
-        1 => u8::MAX,
-        2..4 => {
+    if random.chance(35) {
+        let ipv4 = ipv4(random);
+        return around_mapped(random, &ipv4);
+    }
+    let zeros = match random.below(9) {
+        0 => u8::MAX,
+        1..3 => {
             let length = 1 + random.index(7);
             run(length) << random.index(9 - length)
         }
-        4..7 => {
+        3..6 => {
             let lengths = [2, 3, 1 + random.index(3)];
             let [one, other] = [random.pick(&lengths), random.pick(&lengths)];
             let between = 1 + random.index(8 - one - other);
@@ -167,10 +188,7 @@ pub fn ipv6(random: &mut Random) -> Vec<u8> {
         1 => 0,
         _ => {
             let any = random.next() as u16 | 1;
-            let mapped = if place == 5 { 0xFFFF } else { 1 };
-            random.pick(&[
-                mapped, 1, 0xA, 0xF, 0x10, 0xFF, 0x100, 0xFFF, 0x1000, 0xFFFF, any,
-            ])
+            random.pick(&[1, 0xA, 0xF, 0x10, 0xFF, 0x100, 0xFFF, 0x1000, 0xFFFF, any])
         }
     };
     (0..8).map(group).flat_map(u16::to_be_bytes).collect()

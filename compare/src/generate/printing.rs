@@ -1,13 +1,15 @@
 //! Makes requests on absolute references: for their URI text, and for whether two are the same.
 
 use super::damage::damage;
-use super::link::{around_longest, default_port, faulty, ipv4, no_paths, Bytes, Host, Link, Text};
+use super::link::{around_longest, around_mapped, default_port, faulty, ipv4, no_paths};
+use super::link::{Bytes, Host, Link, Text};
 use super::random::Random;
 use super::reference::{self, Maker};
 use super::{input, room};
 use crate::lines::{hex, MAX_ROOM};
 use crate::reader::MAX_INPUT;
 use crate::uri_text::{longest, uri_text};
+use std::net::Ipv6Addr;
 
 /// A request for the text, with a room around its length or of room enough.
 pub fn text_request(random: &mut Random) -> String {
@@ -56,7 +58,8 @@ fn pair(random: &mut Random) -> [Vec<u8>; 2] {
             first.path = random.pick(&no_paths());
             second.path = random.pick(&no_paths());
         }
-        25..52 => change(random, &mut second),
+        25..49 => change(random, &mut second),
+        49..52 => [first.host, second.host] = around_mapped_hosts(random),
         52..75 => {
             first = Link::full(random);
             second = first.clone();
@@ -84,6 +87,18 @@ fn pair(random: &mut Random) -> [Vec<u8>; 2] {
         _ => return [input(random).bytes, second.encoded().bytes],
     }
     [first, second].map(|link| link.encoded().bytes)
+}
+
+/// An address around a mapped one, and a host that would print like it if a rule were left out.
+fn around_mapped_hosts(random: &mut Random) -> [Host; 2] {
+    let ipv4 = ipv4(random);
+    let address = around_mapped(random, &ipv4);
+    let other = match random.below(3) {
+        0 => Host::Labels(address_labels(random, &address)),
+        1 => Host::Address(around_mapped(random, &ipv4)),
+        _ => Host::Address(ipv4),
+    };
+    [Host::Address(address), other]
 }
 
 /// Changes one component.
@@ -250,17 +265,18 @@ fn escape_one(random: &mut Random, text: &mut Text, label: bool) {
     }
 }
 
-/// Labels that read as the address does: of 16 bytes one label, in brackets or without them.
+/// Labels that read as the address does, in brackets or without them: one label, or those between the dots.
 fn address_labels(random: &mut Random, address: &[u8]) -> Vec<Text> {
-    match <[u8; 16]>::try_from(address) {
-        Ok(address) => {
-            let bare = std::net::Ipv6Addr::from(address).to_string();
-            let label = random.pick(&[format!("[{bare}]"), bare]);
-            vec![label.into_bytes()]
+    let bare = match <[u8; 16]>::try_from(address) {
+        Ok(address) => Ipv6Addr::from(address).to_string(),
+        Err(_) => {
+            let octets: Vec<_> = address.iter().map(u8::to_string).collect();
+            octets.join(".")
         }
-        Err(_) => address
-            .iter()
-            .map(|octet| octet.to_string().into_bytes())
-            .collect(),
+    };
+    let text = random.pick(&[format!("[{bare}]"), bare]);
+    if random.chance(30) {
+        return vec![text.into_bytes()];
     }
+    text.split('.').map(Text::from).collect()
 }

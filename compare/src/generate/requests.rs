@@ -1,7 +1,7 @@
 //! Makes requests for the CoAP options of a link.
 
 use super::item::Item;
-use super::link::{around_longest, default_port, faulty, ipv4, ipv6, no_paths};
+use super::link::{around_longest, around_mapped, default_port, faulty, ipv4, ipv6, no_paths};
 use super::link::{Bytes, Host, Link, Text};
 use super::random::Random;
 use super::reference::{self, without_dots, Maker, KNOWN_SCHEMES};
@@ -165,12 +165,14 @@ fn address(random: &mut Random, own: &[u8]) -> Vec<u8> {
     address
 }
 
-/// Of 4 bytes the 16 that end in them, as those of a mapped address do; of 16 bytes 4 of them.
+/// Of 4 bytes 16 that end in them, around a mapped address; of 16 bytes such others with the same end, or 4 of them.
 fn embedded(random: &mut Random, address: &[u8]) -> Vec<u8> {
-    let before = random.pick(&[[0xFF; 2], [0xFF; 2], [0; 2]]);
+    let long = around_mapped(random, &address[address.len() - 4..]);
     match address.len() {
-        4 => [&[0; 10][..], &before, address].concat(),
-        _ => random.pick(&[&address[12..], &address[..4]]).to_vec(),
+        4 => long,
+        _ => random
+            .pick(&[&long, &address[12..], &address[..4]])
+            .to_vec(),
     }
 }
 

@@ -7,6 +7,7 @@ ghost use Rattle.rules.specs.Numeral.{decimal};
 ghost use Rattle.rules.specs.Address.{ipv4Text};
 ghost use Rattle.put.specs.Joined.{further};
 ghost use Rattle.put.specs.Wrote.{Wrote};
+use numeral::decimal_length;
 use numeral::put_decimal;
 use put::put_byte;
 
@@ -39,11 +40,21 @@ pub fn put_ipv4(room: &mut [u8], at: usize, src: &[u8], from: usize) -> usize
     put_further_octets(room, p, src, from + 1, 3)
 }
 
+// How long a byte is in decimal.
+fn octet_length(b: u8) -> usize
+    ensures { λ r. ⌜ (r ≡ length (decimal b)) × (r ≤ 3) ⌝ }
+{
+    decimal_length(b as u16)
+}
+
 // How long the text of an IPv4 address is.
 pub fn ipv4_length(src: &[u8], from: usize) -> usize
     requires { ⌜ from + 4 ≤ length (now src) ⌝ }
     ensures { λ r. ⌜ r ≡ length (ipv4Text (part (now (src .entry)) from 4)) ⌝ }
 {
-    let mut room = [0; 32];
-    put_ipv4(&mut room, 0, src, from)
+    octet_length(src[from])
+        + octet_length(src[from + 1])
+        + octet_length(src[from + 2])
+        + octet_length(src[from + 3])
+        + 3
 }

@@ -1,4 +1,4 @@
--- The text of an address, in the pieces that the code writes.
+-- The text of an address in hex groups, in the pieces that the code writes.
 use Prim.Native.Nat.{ℕ, _+_, _*_, _-_, _≤_, _<_}
 use native.Mathlib.Omega.{arith}
 use mathlib.Core.Path.{_≡_, refl, sym, ap, ap₂, _∙_}
@@ -8,19 +8,16 @@ use lib.Seq.{take-all}
 use borrow.Author.Tests.{le-leb, lt-leb}
 use Rattle.rules.specs.Bytes.{Bytes, part, colon, join}
 use Rattle.rules.specs.Numeral.{numeral}
-use Rattle.rules.specs.Address.{groups, longest, hexGroups, ipv6Text}
+use Rattle.rules.specs.Address.{groups, longest, hexGroups, hexText}
 use Rattle.rules.proofs.Tools.{cond-yes, cond-no, length-part, part-cons}
 use Rattle.rules.proofs.Numerals.{numeral-length}
-use Rattle.rules.proofs.Addresses.{ipv6-length}
+use Rattle.rules.proofs.Addresses.{hex-length}
 use Rattle.put.specs.Joined.{further}
 use Rattle.put.proofs.Joined.{joined, further-none, further-step}
 use Rattle.ipv6.specs.Zeros.{zerosFrom}
 use Rattle.ipv6.specs.declared.Zeros.{Zeros}
+use Rattle.ipv6.proofs.Groups.{eight-groups}
 use Rattle.ipv6.proofs.ZeroRuns.{Found, found}
-
--- how long it is at most
-pub ipv6-fits : (s : Bytes) (from : ℕ) → from + 16 ≤ length s → length (ipv6Text (part s from 16)) ≤ 49
-ipv6-fits s from h = omega (arith, ipv6-length (part s from 16) (length-part s from 16 h))
 
 module _ (gs : List ℕ) where
   pub no-groups : (k : ℕ) → hexGroups (part gs k 0) ≡ []
@@ -53,32 +50,54 @@ further-most (g ∷ gs) =
       further-most gs,
     )
 
--- an address whose longest run of zeros was found
-module _ (bs : Bytes) (e : length (groups bs) ≡ 8) (z : Zeros) (is : z ≡ zerosFrom 0 (groups bs)) where
-  run : Found 0 (groups bs) z
-  run = rw is (found 0 (groups bs))
+-- an address at a position, whose longest run of zeros was found
+module _ (s : Bytes) (from : ℕ) (z : Zeros) where
+  abbrev gs : List ℕ
+  gs = groups (part s from 16)
 
-  pub run-inside : z .at + z .size ≤ 8
-  run-inside = omega (arith, run .inside)
+  -- the groups before the run, and those after it
+  abbrev head : Bytes
+  head = hexGroups (part gs 0 (z .at))
 
-  pub ipv6-whole : z .size < 2 → ipv6Text bs ≡ hexGroups (part (groups bs) 0 8)
-  unfolding ipv6Text
-  ipv6-whole h = cond-no _ _ _ (lt-leb 2 (longest (groups bs) .size) (omega (arith, run .size))) ∙ ap hexGroups (sym (take-all 8 (groups bs) (omega arith)))
+  abbrev tail : Bytes
+  tail = hexGroups (part gs (z .at + z .size) (8 - (z .at + z .size)))
 
-  pub ipv6-cut : 2 ≤ z .size
-      → ipv6Text bs ≡ hexGroups (part (groups bs) 0 (z .at)) ++ ((colon ∷ colon ∷ []) ++ hexGroups (part (groups bs) (z .at + z .size) (8 - (z .at + z .size))))
-  unfolding ipv6Text
-  ipv6-cut h =
-      let after : ℕ = z .at + z .size in
-      let l : z .at - 0 ≡ z .at = omega arith in
-      let r : z .at - 0 + z .size ≡ z .at + z .size = omega arith in
-      cond-yes _ _ _ (le-leb 2 (longest (groups bs) .size) (omega (arith, run .size)))
-      ∙ ap₂ (λ (a b : List ℕ). hexGroups a ++ (colon ∷ colon ∷ hexGroups b))
-      (run .left ∙ ap (λ (n : ℕ). take n (groups bs)) l)
-      (run .right ∙ ap (λ (n : ℕ). drop n (groups bs)) r ∙ sym (take-all (8 - after) (drop after (groups bs)) (omega (arith, length-drop after (groups bs)))))
+  -- its text in hex groups, where there is no run to leave out and where there is one
+  pub record HexText : Type 0 where
+    pub inside : z .at + z .size ≤ 8
+    pub whole : z .size < 2 → hexText (part s from 16) ≡ hexGroups (part gs 0 8)
+    pub cut : 2 ≤ z .size → hexText (part s from 16) ≡ head ++ ((colon ∷ colon ∷ []) ++ tail)
+    pub lengths : 2 ≤ z .size → length (hexText (part s from 16)) ≡ length head + (2 + length tail)
+    pub most : length (hexText (part s from 16)) ≤ 49
 
-  pub ipv6-lengths : 2 ≤ z .size
-      → length (ipv6Text bs) ≡ length (hexGroups (part (groups bs) 0 (z .at))) + (2 + length (hexGroups (part (groups bs) (z .at + z .size) (8 - (z .at + z .size)))))
-  ipv6-lengths h =
-      let tail : Bytes = hexGroups (part (groups bs) (z .at + z .size) (8 - (z .at + z .size))) in
-      omega (arith, ap length (ipv6-cut h), length-append (hexGroups (part (groups bs) 0 (z .at))) ((colon ∷ colon ∷ []) ++ tail))
+  module _ (h : from + 16 ≤ length s) (is : z ≡ zerosFrom 0 gs) where
+    run : Found 0 gs z
+    run = rw is (found 0 gs)
+
+    eight : length gs ≡ 8
+    eight = eight-groups s from h
+
+    text-whole : z .size < 2 → hexText (part s from 16) ≡ hexGroups (part gs 0 8)
+    unfolding hexText
+    text-whole l = cond-no _ _ _ (lt-leb 2 (longest gs .size) (omega (arith, run .size))) ∙ ap hexGroups (sym (take-all 8 gs (omega (arith, eight))))
+
+    text-cut : 2 ≤ z .size → hexText (part s from 16) ≡ head ++ ((colon ∷ colon ∷ []) ++ tail)
+    unfolding hexText
+    text-cut l =
+        let after : ℕ = z .at + z .size in
+        let first : z .at - 0 ≡ z .at = omega arith in
+        let rest : z .at - 0 + z .size ≡ z .at + z .size = omega arith in
+        cond-yes _ _ _ (le-leb 2 (longest gs .size) (omega (arith, run .size)))
+        ∙ ap₂ (λ (a b : List ℕ). hexGroups a ++ (colon ∷ colon ∷ hexGroups b))
+        (run .left ∙ ap (λ (n : ℕ). take n gs) first)
+        (run .right ∙ ap (λ (n : ℕ). drop n gs) rest ∙ sym (take-all (8 - after) (drop after gs) (omega (arith, eight, length-drop after gs))))
+
+    pub hex-text : HexText
+    hex-text =
+        record {
+          inside = omega (arith, eight, run .inside);
+          whole = text-whole;
+          cut = text-cut;
+          lengths = λ l. omega (arith, ap length (text-cut l), length-append head ((colon ∷ colon ∷ []) ++ tail));
+          most = hex-length (part s from 16) (length-part s from 16 h);
+        }

@@ -1,3 +1,4 @@
 pub mod Groups
 pub mod ZeroRuns
 pub mod GroupTexts
+pub mod Mapped

@@ -106,6 +106,14 @@ found k [] = record {
 }
 found k (g ∷ gs) = found-more k g gs (zerosFrom (suc k) gs) (found (suc k) gs)
 
+-- a group more, and no run is longer than n
+pub run-most : (n k g : ℕ) (gs : List ℕ) → zerosFrom (suc k) gs .size ≤ n → zerosAhead (g ∷ gs) ≤ n → zerosFrom k (g ∷ gs) .size ≤ n
+unfolding zerosFrom withGroup
+run-most n k g gs h l =
+    let z : Zeros = zerosFrom (suc k) gs in
+    let a : ahead (z .here) g ≡ zerosAhead (g ∷ gs) = ahead-more g gs (z .here) (found (suc k) gs .leading) in
+    cond-split (λ (x : Zeros). x .size ≤ n) (leb (z .size) (ahead (z .here) g)) (λ _. omega arith) (λ _. h)
+
 -- one turn of the walk: from the groups from k on to those from k - 1 on
 pub walk-first : (gs : List ℕ) → length gs ≡ 8 → zeros 0 8 0 ≡ zerosFrom 8 (drop 8 gs)
 unfolding zerosFrom

@@ -4,11 +4,13 @@ ghost use mathlib.Core.Path.{_≡_};
 ghost use lib.ListN.{length, getD};
 ghost use Rattle.rules.specs.Bytes.{part, colon};
 ghost use Rattle.rules.specs.Numeral.{digitByte, numeral};
-ghost use Rattle.rules.specs.Address.{groups, hexGroups, ipv6Text};
+ghost use Rattle.rules.specs.Address.{groups, hexGroups, hexText, mapped, ipv6Text};
 ghost use Rattle.put.specs.Joined.{further};
 ghost use Rattle.put.specs.Tables.{Digits};
 ghost use Rattle.put.specs.Wrote.{Wrote};
 ghost use Rattle.ipv6.specs.Zeros.{ahead, withGroup, zerosFrom};
+use ipv4::ipv4_length;
+use ipv4::put_ipv4;
 use numeral::hex_length;
 use numeral::lower_hex_digits;
 use numeral::put_hex;
@@ -79,6 +81,21 @@ fn longest_run(src: &[u8], from: usize) -> Zeros
     z
 }
 
+// Whether an address is IPv4-mapped: its longest run of zeros is that of its first five groups, and the next one is ffff.
+fn is_mapped(src: &[u8], from: usize, run: Zeros) -> bool
+    requires { ⌜ from + 16 ≤ length (now src) ⌝ }
+    requires { ⌜ run ≡ zerosFrom 0 (groups (part (now src) from 16)) ⌝ }
+    ensures { λ r. ⌜ r ≡ mapped (part (now (src .entry)) from 16) ⌝ }
+{
+    if group_at(src, from, 5) != 0xffff {
+        return false;
+    }
+    if run.at != 0 {
+        return false;
+    }
+    run.size == 5
+}
+
 // Each of n groups from group k on in hex, after a ":".
 fn put_further_groups(
     room: &mut [u8],
@@ -129,14 +146,14 @@ fn put_groups(
     put_further_groups(room, p, digits, src, from, k + 1, n - 1)
 }
 
-// The IPv6 address in the 16 bytes of src from a position on, by RFC 5952 in hex groups.
-pub fn put_ipv6(room: &mut [u8], at: usize, src: &[u8], from: usize) -> usize
+// The IPv6 address in the 16 bytes of src from a position on in hex groups, its longest run of zeros given.
+fn put_hex_text(room: &mut [u8], at: usize, src: &[u8], from: usize, run: Zeros) -> usize
     requires { ⌜ from + 16 ≤ length (now src) ⌝ }
-    requires { ⌜ at + length (ipv6Text (part (now src) from 16)) ≤ length (now room) ⌝ }
-    ensures { λ r. ⌜ Wrote (now (room .entry)) at (ipv6Text (part (now (src .entry)) from 16)) (now (room .exit)) r ⌝ }
+    requires { ⌜ run ≡ zerosFrom 0 (groups (part (now src) from 16)) ⌝ }
+    requires { ⌜ at + length (hexText (part (now src) from 16)) ≤ length (now room) ⌝ }
+    ensures { λ r. ⌜ Wrote (now (room .entry)) at (hexText (part (now (src .entry)) from 16)) (now (room .exit)) r ⌝ }
 {
     let digits = lower_hex_digits();
-    let run = longest_run(src, from);
     if run.size < 2 {
         return put_groups(room, at, &digits, src, from, 0, 8);
     }
@@ -144,6 +161,20 @@ pub fn put_ipv6(room: &mut [u8], at: usize, src: &[u8], from: usize) -> usize
     let q = put_bytes(room, p, b"::");
     let next = run.at + run.size;
     put_groups(room, q, &digits, src, from, next, 8 - next)
+}
+
+// The IPv6 address in the 16 bytes of src from a position on, by RFC 5952: in the mixed form where it is IPv4-mapped, else in hex groups.
+pub fn put_ipv6(room: &mut [u8], at: usize, src: &[u8], from: usize) -> usize
+    requires { ⌜ from + 16 ≤ length (now src) ⌝ }
+    requires { ⌜ at + length (ipv6Text (part (now src) from 16)) ≤ length (now room) ⌝ }
+    ensures { λ r. ⌜ Wrote (now (room .entry)) at (ipv6Text (part (now (src .entry)) from 16)) (now (room .exit)) r ⌝ }
+{
+    let run = longest_run(src, from);
+    if is_mapped(src, from, run) {
+        let p = put_bytes(room, at, b"::ffff:");
+        return put_ipv4(room, p, src, from + 12);
+    }
+    put_hex_text(room, at, src, from, run)
 }
 
 // How long n groups from group k on are in hex, each after a ":".
@@ -172,15 +203,27 @@ fn groups_length(src: &[u8], from: usize, k: usize, n: usize) -> usize
     further_length(src, from, k, n) - 1
 }
 
+// How long an IPv6 address is in hex groups, its longest run of zeros given.
+fn hex_text_length(src: &[u8], from: usize, run: Zeros) -> usize
+    requires { ⌜ from + 16 ≤ length (now src) ⌝ }
+    requires { ⌜ run ≡ zerosFrom 0 (groups (part (now src) from 16)) ⌝ }
+    ensures { λ r. ⌜ r ≡ length (hexText (part (now (src .entry)) from 16)) ⌝ }
+{
+    if run.size < 2 {
+        return groups_length(src, from, 0, 8);
+    }
+    let next = run.at + run.size;
+    groups_length(src, from, 0, run.at) + 2 + groups_length(src, from, next, 8 - next)
+}
+
 // How long the text of an IPv6 address is.
 pub fn ipv6_length(src: &[u8], from: usize) -> usize
     requires { ⌜ from + 16 ≤ length (now src) ⌝ }
     ensures { λ r. ⌜ r ≡ length (ipv6Text (part (now (src .entry)) from 16)) ⌝ }
 {
-    let zeros = longest_run(src, from);
-    if zeros.size < 2 {
-        return groups_length(src, from, 0, 8);
+    let run = longest_run(src, from);
+    if is_mapped(src, from, run) {
+        return 7 + ipv4_length(src, from + 12);
     }
-    let next = zeros.at + zeros.size;
-    groups_length(src, from, 0, zeros.at) + 2 + groups_length(src, from, next, 8 - next)
+    hex_text_length(src, from, run)
 }

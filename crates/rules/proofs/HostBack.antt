@@ -1,25 +1,25 @@
 -- The value of Uri-Host is read back as the host, so it determines the host.
 use mathlib.Core.Path.{_≡_, refl, sym, ap, _∙_}
-use Prim.Native.Nat.{ℕ}
 use mathlib.Core.Bool.{Bool, true, false, cond, _||_}
 use mathlib.Core.List.{List, [], _∷_, _++_, map, tail}
-use mathlib.Core.Option.{Option, some, Option·map}
+use mathlib.Core.Option.{some}
 use lib.ListN.{length}
 use lib.Dec.{eqb}
 use borrow.Author.Tests.{eqb-true}
-use Rattle.rules.specs.Bytes.{Bytes, Each, Octets, dot, same, join}
+use Rattle.rules.specs.Bytes.{Bytes, Each, Octets, dot, same, filled, starts, upto, split, join}
 use Rattle.rules.specs.Model.{Host, address, labels}
 use Rattle.rules.specs.Rules.{labelByte, labelRule, label}
 use Rattle.rules.specs.Valid.{Good, GoodHost}
 use Rattle.rules.specs.Numeral.{digitByte, decimal}
 use Rattle.rules.specs.Address.{ipv4Text, ipv6Text, leftBracket, rightBracket, addressText}
+use Rattle.rules.specs.ReadAddress.{ipv6Bytes}
 use Rattle.rules.specs.Text.{marked}
 use Rattle.rules.specs.Options.{CoapOption, option, uriHost}
 use Rattle.rules.proofs.Tools.{never, by-test, All, each-map, each-all}
-use Rattle.rules.proofs.Escapes.{lacks, all-lacks, Free, upto, upto-cut, free, split, split-join, join-all}
-use Rattle.rules.proofs.Numerals.{filled, decimal-all}
-use Rattle.rules.proofs.Addresses.{unIpv6, unIpv6-text, ipv6-all}
-use Rattle.rules.proofs.UnText.{unHost, starts}
+use Rattle.rules.proofs.Escapes.{lacks, all-lacks, Free, upto-cut, starts-free, free, split-join, join-all}
+use Rattle.rules.proofs.Numerals.{decimals-all}
+use Rattle.rules.proofs.Addresses.{ipv6-back, six-free}
+use Rattle.rules.proofs.UnText.{unHost}
 use Rattle.rules.proofs.TextBack.{fill-some, some-filled, decimals-host, decimals-some, labels-host}
 
 -- RULES 7.1: what Uri-Host has
@@ -28,19 +28,15 @@ hostValue (labels ls) = join dot ls
 hostValue (address a) = addressText a
 
 -- the host that a value says
-unfoldable unValue : Bytes → Option (Host Bytes)
-unValue t = cond (starts leftBracket t) (Option·map address (unIpv6 (upto rightBracket (tail t)))) (some (unHost (split dot t)))
+unfoldable unValue : Bytes → Host Bytes
+unValue t = cond (starts leftBracket t) (address (ipv6Bytes (upto rightBracket (tail t)))) (unHost (split dot t))
 
 -- what no label holds
 abbrev lack : Bytes
 lack = dot ∷ leftBracket ∷ []
 
-starts-free : (d : ℕ) (t : Bytes) → Free d t → starts d t ≡ false
-starts-free d [] h = refl
-starts-free d (c ∷ t) h = h .0
-
 -- labels, and the four decimals of an IPv4 address
-name-value : (ls : List Bytes) → filled ls ≡ true → Each (All (lacks lack)) ls → unValue (join dot ls) ≡ some (unHost ls)
+name-value : (ls : List Bytes) → filled ls ≡ true → Each (All (lacks lack)) ls → unValue (join dot ls) ≡ unHost ls
 unfolding unValue
 name-value ls few h =
     let dots : Each (Free dot) ls = each-map (free (lacks lack) dot refl) ls h in
@@ -53,26 +49,19 @@ unfolding labelRule labelByte
 labels-lack [] g = tt
 labels-lack (l ∷ ls) g = (all-lacks labelByte lack refl l (each-all labelByte l (g .0 .rule)), labels-lack ls (g .1))
 
-decimals-lack : (bs : Bytes) → Each (All (lacks lack)) (map decimal bs)
-unfolding digitByte
-decimals-lack [] = tt
-decimals-lack (b ∷ bs) = (decimal-all (lacks lack) refl b, decimals-lack bs)
-
 -- an IPv6 address
-six-value : (bs : Bytes) → length bs ≡ 16 → Octets bs → unValue (leftBracket ∷ (ipv6Text bs ++ (rightBracket ∷ []))) ≡ some (address bs)
-unfolding unValue digitByte marked
-six-value bs e h =
-    let f : Free rightBracket (ipv6Text bs) = free (lacks (rightBracket ∷ [])) rightBracket refl (ipv6Text bs) (ipv6-all (lacks (rightBracket ∷ [])) refl refl bs) in
-    rw (upto-cut rightBracket (ipv6Text bs) (some []) f, unIpv6-text bs e h)
+six-value : (bs : Bytes) → length bs ≡ 16 → Octets bs → unValue (leftBracket ∷ (ipv6Text bs ++ (rightBracket ∷ []))) ≡ address bs
+unfolding unValue marked
+six-value bs e h = rw (upto-cut rightBracket (ipv6Text bs) (some []) (six-free bs), ipv6-back bs e h)
 
-value-back : (h : Host Bytes) → GoodHost h → unValue (hostValue h) ≡ some h
-unfolding addressText ipv4Text
+value-back : (h : Host Bytes) → GoodHost h → unValue (hostValue h) ≡ h
+unfolding addressText ipv4Text digitByte
 value-back (labels ls) g =
-    name-value ls (some-filled 8 ls (g .texts .count)) (labels-lack ls (g .texts .each)) ∙ ap some (labels-host ls (g .name))
+    name-value ls (some-filled 8 ls (g .texts .count)) (labels-lack ls (g .texts .each)) ∙ labels-host ls (g .name)
 value-back (address bs) g =
-    by-test (λ t. ((t || eqb (length bs) 16) ≡ true) → unValue (cond t (join dot (map decimal bs)) (leftBracket ∷ (ipv6Text bs ++ (rightBracket ∷ [])))) ≡ some (address bs))
+    by-test (λ t. ((t || eqb (length bs) 16) ≡ true) → unValue (cond t (join dot (map decimal bs)) (leftBracket ∷ (ipv6Text bs ++ (rightBracket ∷ [])))) ≡ address bs)
     (eqb (length bs) 4)
-    (λ e z. name-value (map decimal bs) (decimals-some bs (eqb-true _ _ e)) (decimals-lack bs) ∙ ap some (decimals-host bs (eqb-true _ _ e) (g .octets)))
+    (λ e z. name-value (map decimal bs) (decimals-some bs (eqb-true _ _ e)) (decimals-all (lacks lack) refl bs) ∙ decimals-host bs (eqb-true _ _ e) (g .octets))
     (λ e z. six-value bs (eqb-true _ _ z) (g .octets))
     (g .size)
 
@@ -98,5 +87,4 @@ value-of (address a) toAddress v e =
 pub host-determined : (h k : Host Bytes) (toAddress v : Bytes) → GoodHost h → GoodHost k → uriHost h toAddress ≡ option 3 v ∷ []
     → uriHost k toAddress ≡ option 3 v ∷ [] → h ≡ k
 host-determined h k toAddress v g f d e =
-    let both : some h ≡ some k = sym (value-back h g) ∙ ap unValue (value-of h toAddress v d ∙ sym (value-of k toAddress v e)) ∙ value-back k f in
-    cc
+    sym (value-back h g) ∙ ap unValue (value-of h toAddress v d ∙ sym (value-of k toAddress v e)) ∙ value-back k f

@@ -8,26 +8,25 @@ use mathlib.Core.List.{List, [], _∷_, _++_, map, append-assoc, append-nil}
 use lib.ListN.{length, take, drop, length-append, take-append-drop}
 use lib.Seq.{length-take-le, take-at, drop-at}
 use lib.Dec.{leb, ltb, eqb}
-use borrow.Author.Tests.{eqb-true, leb-true, ltb-true, le-leb, lt-ltb, le-ltb}
-use Rattle.rules.specs.Bytes.{Bytes, Each, Octets, dot, all, same, join}
+use borrow.Author.Tests.{eqb-true, leb-true, le-leb, lt-ltb, le-ltb}
+use Rattle.rules.specs.Bytes.{Bytes, Each, Octets, byte, dot, all, same, join}
 use Rattle.rules.specs.Result.{Res, refused, ok, COAP, DEST}
 use Rattle.rules.specs.Model.{Scheme, number, name, Host, address, labels, Limits, Cri, elements, normalPath}
 use Rattle.rules.specs.Rules.{Sort, SchemeEntry, schemes, schemeIn, label, segment, parameter, nameRule}
 use Rattle.rules.specs.Meaning.{readAbsolute}
 use Rattle.rules.specs.Valid.{If, Good, GoodTexts, GoodAddress, GoodHost}
-use Rattle.rules.specs.Numeral.{digitByte, decimal}
+use Rattle.rules.specs.Numeral.{digitByte}
 use Rattle.rules.specs.Address.{ipv4Text, ipv6Text, rightBracket, addressText}
 use Rattle.rules.specs.Options.{CoapOption, option, uriHost, portBytes, uriPort, options, coapScheme, nibble, extension, optionBytes, optionsFrom, Extended, reads, oneByteMore, twoBytesMore, extended, OptionAt, optionAt, readOption, readOptionsFrom, readOptions, Rising, GoodOption, Codable}
 use Rattle.rules.specs.Calls.{absent, optionsCall}
 use Rattle.rules.specs.Promises.{Requested}
-use Rattle.rules.proofs.Tools.{All, tests, and-left, and-right, never, cond-split, within-high, each-append, each-map, each-all, each-take, each-drop}
+use Rattle.rules.proofs.Tools.{tests, and-left, and-right, never, cond-split, within-high, each-append, each-map, each-all, each-take, each-drop, all-octets, octets-all}
 use Rattle.rules.proofs.Steps.{none-some, Ok, no!, ok!, ok-bind, ok-need, ok-given}
 use Rattle.rules.proofs.Authorities.{address-most}
 use Rattle.rules.proofs.Absolutes.{GoodCri, good-read}
 use Rattle.rules.proofs.Utf8Bytes.{good-octets, goods-octets}
 use Rattle.rules.proofs.Escapes.{join-all}
-use Rattle.rules.proofs.Numerals.{decimal-all}
-use Rattle.rules.proofs.Addresses.{ipv6-all}
+use Rattle.rules.proofs.Addresses.{ipv4-all, ipv6-all}
 use Rattle.rules.proofs.TextBound.{address-length}
 use Rattle.rules.proofs.Resolving.{normal-each}
 
@@ -260,28 +259,12 @@ pub record ShortValue (v : Bytes) : Type 0 where
 pub good-short : (s : Sort) → s .high ≤ 255 → (t : Bytes) → Good s t → ShortValue t
 good-short s h t g = record { size = omega (arith, within-high (s .low) (s .high) (length t) (g .size)); octets = good-octets s t g }
 
--- bytes, as a class
-abbrev byte : ℕ → Bool
-byte c = ltb c 256
-
--- the class says the same as Octets
-all-octets : (bs : Bytes) → All byte bs → Octets bs
-all-octets bs h = each-map (λ c e. ltb-true c 256 e) bs h
-
-octets-all : (bs : Bytes) → Octets bs → All byte bs
-octets-all bs h = each-map (λ c e. lt-ltb c 256 e) bs h
-
 -- the values: an address as text, joined labels, a port, and each parameter
-decimals-all : (bs : Bytes) → Each (All byte) (map decimal bs)
-unfolding digitByte
-decimals-all [] = tt
-decimals-all (b ∷ bs) = (decimal-all byte refl b, decimals-all bs)
-
 address-octets : (bs : Bytes) → Octets (addressText bs)
-unfolding addressText ipv4Text digitByte
+unfolding addressText digitByte
 address-octets bs =
-    cond-split Octets (eqb (length bs) 4) (λ e. all-octets (join dot (map decimal bs)) (join-all byte dot refl (map decimal bs) (decimals-all bs)))
-    (λ e. (omega arith, each-append _ (ipv6Text bs) (rightBracket ∷ []) (all-octets (ipv6Text bs) (ipv6-all byte refl refl bs)) (omega arith, tt)))
+    cond-split Octets (eqb (length bs) 4) (λ e. all-octets (ipv4Text bs) (ipv4-all byte refl refl bs))
+    (λ e. (omega arith, each-append _ (ipv6Text bs) (rightBracket ∷ []) (all-octets (ipv6Text bs) (ipv6-all byte refl refl refl bs)) (omega arith, tt)))
 
 pub address-short : (bs : Bytes) → GoodAddress bs → ShortValue (addressText bs)
 address-short bs g = record { size = omega (arith, address-most bs g, address-length bs g); octets = address-octets bs }

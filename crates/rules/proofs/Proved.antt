@@ -18,7 +18,7 @@ use Rattle.rules.specs.Text.{uriText}
 use Rattle.rules.specs.Options.{options, optionsFrom, readOptions}
 use Rattle.rules.specs.Calls.{lengthOf, outcome, after, textCall, optionsCall}
 use Rattle.rules.specs.Amended.{earlierByte}
-use Rattle.rules.specs.Cases.{starred, unstarred, slips, steps, refusals, accepted, sizes, texts, escaped, requests, codings, addresses, segmentRows, authorityRows, bases, labelBytes}
+use Rattle.rules.specs.Cases.{starred, unstarred, slips, steps, refusals, accepted, sizes, texts, escaped, requests, codings, addresses, saidAddresses, segmentRows, authorityRows, bases, labelBytes}
 use Rattle.rules.specs.Promises as P
 use Rattle.rules.specs.Promises.{shown, Writes, unfragmented}
 use Rattle.rules.proofs.Steps.{ok-at}
@@ -27,6 +27,7 @@ use Rattle.rules.proofs.RefusalNumbers.{numbers}
 use Rattle.rules.proofs.RoundTrips.{read-write, write-read}
 use Rattle.rules.proofs.Encoding.{encode-octets}
 use Rattle.rules.proofs.Absolutes.{withPath, absolute-same, read-as, text-of, GoodCri, good-read, fits-valid, valid-fits, fits-read}
+use Rattle.rules.proofs.Addresses.{address-exact}
 use Rattle.rules.proofs.TextBack.{text-same}
 use Rattle.rules.proofs.TextBound.{read-bound}
 use Rattle.rules.proofs.Resolving.{nothing, resolve-nothing, resolve-empty, resolve-again, resolve-absolute, good-resolve, resolved-is, resolve-writes}
@@ -129,6 +130,9 @@ bound-proved lim bs c h e =
     let l : length (uriText c) ≤ 3 * length bs + 13 = read-bound lim bs c h e in
     (l, λ n k. enough (textCall lim bs) (uriText c) n (text-of lim bs c e) (omega arith))
 
+pub address-exact-proved : P.AddressExact
+address-exact-proved = address-exact
+
 -- ---- resolving
 
 pub resolving-proved : P.Resolving
@@ -199,7 +203,7 @@ unfolding computed starred
 starred-proved = refl
 
 pub examples-proved : P.Examples
-unfolding computed unstarred slips steps refusals accepted sizes texts escaped requests codings addresses segmentRows authorityRows bases labelBytes earlierByte
+unfolding computed unstarred slips steps refusals accepted sizes texts escaped requests codings addresses saidAddresses segmentRows authorityRows bases labelBytes earlierByte
 examples-proved =
     record {
       rows = refl;
@@ -213,6 +217,7 @@ examples-proved =
       options = refl;
       codings = refl;
       ipv6 = refl;
+      said = refl;
       segments = refl;
       authorities = refl;
       bases = refl;

@@ -7,23 +7,23 @@ use mathlib.Core.Bool.{Bool, true, false, not, cond, _&&_, _||_}
 use mathlib.Core.Option.{Option, none, some, Option·map}
 use mathlib.Core.List.{List, [], _∷_, _++_, map, append-assoc}
 use lib.ListN.{length, length-map}
-use lib.Dec.{leb, ltb, eqb}
-use borrow.Author.Tests.{eqb-true, lt-ltb, ltb-true, not-true}
-use Rattle.rules.specs.Bytes.{Bytes, Each, Octets, ascii, dot, colon, slash, question, hash, ampersand, within, all, same, join}
+use lib.Dec.{leb, eqb}
+use borrow.Author.Tests.{eqb-true, lt-ltb, not-true}
+use Rattle.rules.specs.Bytes.{Bytes, Each, Octets, byte, ascii, dot, colon, slash, question, hash, ampersand, within, all, same, filled, starts, join}
 use Rattle.rules.specs.Model.{Scheme, number, name, Host, address, labels, Authority, Cri, normalPath, normal, Same}
 use Rattle.rules.specs.Rules.{label, segment, parameter, fragmentText, SchemeEntry, schemes, schemeIn, knownScheme, schemeByte, startsLower, schemeRule, labelByte, labelRule, octet, looksIPv4, nameRule}
 use Rattle.rules.specs.Valid.{If, Good, GoodTexts, GoodHost, GoodAuthority, GoodScheme}
 use Rattle.rules.specs.Numeral.{digitByte, decimal}
 use Rattle.rules.specs.Address.{ipv4Text, ipv6Text, leftBracket, rightBracket, addressText}
 use Rattle.rules.specs.Text.{Class, Label, Segment, Parameter, Fragment, bare, hexDigit, escape, marked, entryName, schemeText, hostText, authorityText, pathText, queryText, hierarchyText, uriText}
-use Rattle.rules.proofs.Tools.{never, by-test, and-left, and-right, All, each-append, each-map, each-all, allBelow, allOf, same-refl}
+use Rattle.rules.proofs.Tools.{never, by-test, and-left, and-right, All, each-append, each-map, each-all, all-octets, allBelow, allOf, same-refl}
 use Rattle.rules.proofs.Openings.{of-schemes}
 use Rattle.rules.proofs.Utf8Bytes.{good-octets, goods-octets}
 use Rattle.rules.proofs.Absolutes.{GoodCri}
 use Rattle.rules.proofs.Escapes.{lacks, lacks-of, all-lacks, unescape, unescape-escape, escape-all, escapes-lack, escape-bare, Free, upto-cut, after-cut, free, fill, split-join, join-all}
-use Rattle.rules.proofs.Numerals.{value, filled, decimal-value, decimal-all, decimal-octet}
-use Rattle.rules.proofs.Addresses.{unIpv6-text, ipv6-all}
-use Rattle.rules.proofs.UnText.{numberIn, unScheme, unescapes, unParts, opened, unPort, unHost, starts, unName, unBracket, unAuthority, slashes, unText}
+use Rattle.rules.proofs.Numerals.{decimal-value, decimal-all, decimals-all, decimals-values, decimal-octet}
+use Rattle.rules.proofs.Addresses.{ipv6-back, ipv6-all, six-free}
+use Rattle.rules.proofs.UnText.{numberIn, unScheme, unescapes, unParts, opened, unPort, unHost, unName, unBracket, unAuthority, slashes, unText}
 
 -- ---- parts: escaped, joined, split and unescaped
 
@@ -164,14 +164,14 @@ module _ (bs : Bytes) (e : length bs ≡ 16) (h : Octets bs) where
   unfolding unAuthority digitByte marked unBracket
   six-back p k =
       let o : Bytes = marked colon (Option·map decimal p) in
-      let f : Free rightBracket (ipv6Text bs) = free (lacks (rightBracket ∷ [])) rightBracket refl (ipv6Text bs) (ipv6-all (lacks (rightBracket ∷ [])) refl refl bs) in
+      let f : Free rightBracket (ipv6Text bs) = six-free bs in
       rw (
         append-assoc (ipv6Text bs) (rightBracket ∷ []) o,
         after-cut rightBracket (ipv6Text bs) (some o) f,
         upto-cut rightBracket (ipv6Text bs) (some o) f,
         upto-cut colon [] (Option·map decimal p) tt,
         after-cut colon [] (Option·map decimal p) tt,
-        unIpv6-text bs e h,
+        ipv6-back bs e h,
         port-back p k,
       )
 
@@ -179,7 +179,7 @@ module _ (bs : Bytes) (e : length bs ≡ 16) (h : Octets bs) where
   unfolding digitByte
   six-all p =
       let q : ℕ → Bool = lacks pathLack in
-      (refl, each-append _ (ipv6Text bs ++ (rightBracket ∷ [])) _ (each-append _ (ipv6Text bs) _ (ipv6-all q refl refl bs) (refl, tt)) (port-all q refl refl p))
+      (refl, each-append _ (ipv6Text bs ++ (rightBracket ∷ [])) _ (each-append _ (ipv6Text bs) _ (ipv6-all q refl refl refl bs) (refl, tt)) (port-all q refl refl p))
 
 -- IPv4: its decimals are labels that need no escape
 decimals-bare : (bs : Bytes) → map (escape Label) (map decimal bs) ≡ map decimal bs
@@ -187,24 +187,14 @@ unfolding bare digitByte
 decimals-bare [] = refl
 decimals-bare (b ∷ bs) = ap₂ (λ (x : Bytes) (xs : List Bytes). x ∷ xs) (escape-bare Label (decimal b) (decimal-all (bare Label) refl b)) (decimals-bare bs)
 
-decimals-lack : (bs : Bytes) → Each (All (lacks nameLack)) (map decimal bs)
-unfolding digitByte
-decimals-lack [] = tt
-decimals-lack (b ∷ bs) = (decimal-all (lacks nameLack) refl b, decimals-lack bs)
-
 decimals-bytes : (bs : Bytes) → Each Octets (map decimal bs)
 unfolding digitByte
-decimals-bytes [] = tt
-decimals-bytes (b ∷ bs) = (each-map (λ c k. ltb-true c 256 k) (decimal b) (decimal-all (λ c. ltb c 256) refl b), decimals-bytes bs)
+decimals-bytes bs = each-map all-octets (map decimal bs) (decimals-all byte refl bs)
 
 decimals-octets : (bs : Bytes) → Octets bs → all octet (map decimal bs) ≡ true
 unfolding all
 decimals-octets [] h = refl
 decimals-octets (b ∷ bs) h = rw (decimal-octet b (h .0), decimals-octets bs (h .1))
-
-decimals-values : (bs : Bytes) → Octets bs → map (value 10) (map decimal bs) ≡ bs
-decimals-values [] h = refl
-decimals-values (b ∷ bs) h = ap₂ (λ (x : ℕ) (xs : Bytes). x ∷ xs) (decimal-value b (omega arith)) (decimals-values bs (h .1))
 
 pub decimals-host : (bs : Bytes) → length bs ≡ 4 → Octets bs → unHost (map decimal bs) ≡ address bs
 unfolding unHost
@@ -239,8 +229,9 @@ abbrev Back : Bytes → Authority Bytes → Type 0
 Back t a = (unAuthority t ≡ some a) × All (lacks pathLack) t
 
 four-back : (bs : Bytes) (p : Option ℕ) → length bs ≡ 4 → Octets bs → If (λ n. n ≤ 65535) p → Back (join dot (map decimal bs) ++ marked colon (Option·map decimal p)) (record { host = address bs; port = p })
+unfolding digitByte
 four-back bs p e h k =
-    let lack : Each (All (lacks nameLack)) (map (escape Label) (map decimal bs)) = rw (decimals-bare bs) (decimals-lack bs) in
+    let lack : Each (All (lacks nameLack)) (map (escape Label) (map decimal bs)) = rw (decimals-bare bs) (decimals-all (lacks nameLack) refl bs) in
     let few : filled (map decimal bs) ≡ true = decimals-some bs e in
     let bytes : Each Octets (map decimal bs) = decimals-bytes bs in (
       rw (decimals-bare bs, decimals-host bs e h) at (name-back (map decimal bs) few bytes lack p k),

@@ -1,18 +1,17 @@
 -- The reading of URI text back, for the proof that a text determines its CRI.
 -- It takes more texts than are written: bare bytes that should be escaped, and escapes of bytes that may be bare.
 use Prim.Native.Nat.{ℕ}
-use mathlib.Core.Bool.{Bool, false, cond, _&&_}
+use mathlib.Core.Bool.{cond, _&&_}
 use mathlib.Core.Option.{Option, none, some}
 use mathlib.Core.List.{List, [], _∷_, map, tail}
 use lib.Dec.{ltb, eqb}
-use Rattle.rules.specs.Bytes.{Bytes, dot, colon, slash, question, hash, ampersand, same}
+use Rattle.rules.specs.Bytes.{Bytes, dot, colon, slash, question, hash, ampersand, same, filled, starts, upto, split}
 use Rattle.rules.specs.Model.{Scheme, number, name, Host, address, labels, Authority, Cri, elements, normalPath}
 use Rattle.rules.specs.Rules.{SchemeEntry, schemes, looksIPv4}
-use Rattle.rules.specs.Numeral.{decimal}
+use Rattle.rules.specs.Numeral.{decimal, value}
 use Rattle.rules.specs.Address.{leftBracket, rightBracket}
-use Rattle.rules.proofs.Escapes.{consO, unescape, upto, after, split}
-use Rattle.rules.proofs.Numerals.{value, filled}
-use Rattle.rules.proofs.Addresses.{unIpv6}
+use Rattle.rules.specs.ReadAddress.{ipv6Bytes}
+use Rattle.rules.proofs.Escapes.{consO, unescape, after}
 
 infixl 20 _>>=_
 abbrev pub _>>=_ : {A B : Type 0} → Option A → (A → Option B) → Option B
@@ -55,18 +54,14 @@ unfoldable pub unHost : List Bytes → Host Bytes
 unfolding looksIPv4
 unHost ls = cond (looksIPv4 ls) (address (map (value 10) ls)) (labels ls)
 
-abbrev pub starts : ℕ → Bytes → Bool
-starts d [] = false
-starts d (c ∷ t) = eqb c d
-
 unfoldable pub unName : Bytes → Option (Authority Bytes)
 unName t = unParts dot (upto colon t) >>= λ ls. opened unPort (after colon t) >>= λ p. some (record { host = unHost ls; port = p })
 
 -- after "[": the address, "]", and nothing more but a port
 unfoldable pub unBracket : Bytes → Option (Authority Bytes)
 unBracket t =
-    after rightBracket t >>= λ r. cond (filled (upto colon r)) none (unIpv6 (upto rightBracket t) >>= λ bs.
-    opened unPort (after colon r) >>= λ p. some (record { host = address bs; port = p }))
+    after rightBracket t >>= λ r. cond (filled (upto colon r)) none (opened unPort (after colon r) >>= λ p.
+    some (record { host = address (ipv6Bytes (upto rightBracket t)); port = p }))
 
 unfoldable pub unAuthority : Bytes → Option (Authority Bytes)
 unAuthority t = cond (starts leftBracket t) (unBracket (tail t)) (unName t)

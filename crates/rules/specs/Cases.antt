@@ -14,6 +14,7 @@ use Rattle.rules.specs.Reader.{Found, read}
 use Rattle.rules.specs.Meaning.{span}
 use Rattle.rules.specs.Text.{Class, Label, Segment, Parameter, Fragment, escape}
 use Rattle.rules.specs.Address.{ipv6Text}
+use Rattle.rules.specs.ReadAddress.{readAddress}
 use Rattle.rules.specs.Options.{CoapOption, option, readOptions}
 use Rattle.rules.specs.Amended.{earlierByte}
 use Rattle.rules.specs.Calls.{resolveCall, textCall, optionsCall}
@@ -318,6 +319,7 @@ texts =
     ∷ prints "85 62 61 2B 82 61 68 00 82 61 70 61 73 82 61 71 60 61 66" "a+://h:0/p/s?q&#f"
     ∷ prints "82 20 81 44 00 0A 64 FF" "coap://0.10.100.255/"
     ∷ prints "82 20 82 50 20 01 0D B8 00 00 00 00 00 01 00 00 00 00 00 01 18 50" "coap://[2001:db8::1:0:0:1]:80/"
+    ∷ prints "82 20 82 50 00 00 00 00 00 00 00 00 00 00 FF FF C0 00 02 01 18 50" "coap://[::ffff:192.0.2.1]:80/"
     ∷ record { input = hex "80"; result = refused 8 0 }
     ∷ record { input = hex "82 F6 81 61 61"; result = refused 8 0 }
     ∷ record { input = hex "81 00"; result = refused 2 1 }
@@ -378,7 +380,11 @@ pub record Request : Type 0 where
 abbrev pub request : Bytes → ℕ → Bytes → Request
 request bs port w = record { input = bs; address = hex "C6 33 64 01"; port = port; result = ok w }
 
--- to that address and port 5683, refused with n at k
+-- to another address, and port 5683
+abbrev pub requestTo : String → String → Bytes → Request
+requestTo s a w = record { input = hex s; address = hex a; port = 5683; result = ok w }
+
+-- to 198.51.100.1 and port 5683, refused with n at k
 abbrev pub unrequested : String → ℕ → ℕ → Request
 unrequested s n k = record { input = hex s; address = hex "C6 33 64 01"; port = 5683; result = refused n k }
 
@@ -395,9 +401,10 @@ requests =
     ∷ request (hex "84 20 81 44 C6 33 64 01 F6 81 61 61") 5683 (hex "D1 02 61")
     -- a lone empty segment has no option
     ∷ request (hex "83 20 81 44 C6 33 64 01 81 60") 5683 []
-    -- another address, an IPv6 address, labels as they are, port 0, a segment as it is
+    -- another address, an IPv6 address, the destination's as IPv4-mapped, labels as they are, port 0, a segment as it is
     ∷ request (hex "82 20 81 44 C6 33 64 02") 5683 (hex "3C" ++ ascii "198.51.100.2")
     ∷ request (hex "82 20 81 50 00 00 00 00 00 00 00 00 00 00 00 00 00 00 00 01") 5683 (hex "35" ++ ascii "[::1]")
+    ∷ request (hex "82 20 81 50 00 00 00 00 00 00 00 00 00 00 FF FF C6 33 64 01") 5683 (hex "3D 08" ++ ascii "[::ffff:198.51.100.1]")
     ∷ request (hex "82 20 82 61 68 62 C3 A9") 5683 (hex "34 68 2E C3 A9")
     ∷ request (hex "82 20 82 44 C6 33 64 01 00") 5683 (hex "70")
     ∷ request (hex "83 20 81 44 C6 33 64 01 81 61 2F") 5683 (hex "B1 2F")
@@ -414,6 +421,9 @@ requests =
     ∷ request (hex "82 28 81 44 C6 33 64 01") 81 (hex "71 50")
     ∷ request (hex "82 29 81 44 C6 33 64 01") 443 []
     ∷ request (hex "82 29 81 44 C6 33 64 01") 444 (hex "72 01 BB")
+    -- to an IPv4-mapped address: the same, the IPv4 address in it
+    ∷ requestTo "82 20 81 50 00 00 00 00 00 00 00 00 00 00 FF FF C0 00 02 01" "00 00 00 00 00 00 00 00 00 00 FF FF C0 00 02 01" []
+    ∷ requestTo "82 20 81 44 C0 00 02 01" "00 00 00 00 00 00 00 00 00 00 FF FF C0 00 02 01" (hex "39" ++ ascii "192.0.2.1")
     -- refusals: the address, before the input; the input; not absolute; a scheme that is a text; a fragment
     ∷ record { input = hex "81 00"; address = hex "C6 33 64"; port = 5683; result = refused 12 0 }
     ∷ unrequested "81 00" 2 1
@@ -422,7 +432,7 @@ requests =
     ∷ unrequested "85 20 81 61 68 F6 F6 61 66" 11 0
     ∷ []
 
--- ---- 11.3: IPv6 texts
+-- ---- 11.3: IPv6 texts, and addresses read back
 
 -- an address and its text
 pub record Ipv6 : Type 0 where
@@ -437,7 +447,7 @@ ipv6 a t = record { address = hex a; text = ascii t }
 abbrev pub ipv6Printed : Ipv6 → Ipv6
 ipv6Printed x = record { address = x .address; text = ipv6Text (x .address) }
 
--- RFC 5952, section 4
+-- RFC 5952, sections 4 and 5
 unfoldable pub addresses : List Ipv6
 addresses =
     ipv6 "20 01 0D B8 00 00 00 00 00 01 00 00 00 00 00 01" "2001:db8::1:0:0:1"
@@ -447,6 +457,66 @@ addresses =
     ∷ ipv6 "00 01 00 00 00 00 00 00 00 00 00 00 00 00 00 00" "1::"
     ∷ ipv6 "00 01 00 00 00 00 00 02 00 00 00 00 00 00 00 03" "1:0:0:2::3"
     ∷ ipv6 "00 01 00 00 00 02 00 03 00 04 00 05 00 06 00 07" "1:0:2:3:4:5:6:7"
+    -- IPv4-mapped
+    ∷ ipv6 "00 00 00 00 00 00 00 00 00 00 FF FF C0 00 02 01" "::ffff:192.0.2.1"
+    ∷ ipv6 "00 00 00 00 00 00 00 00 00 00 FF FF 00 00 00 00" "::ffff:0.0.0.0"
+    ∷ ipv6 "00 00 00 00 00 00 00 00 00 00 FF FF 0A 64 00 FF" "::ffff:10.100.0.255"
+    -- beside them: the next two bytes, one of the first ten, the group before
+    ∷ ipv6 "00 00 00 00 00 00 00 00 00 00 FF FE C0 00 02 01" "::fffe:c000:201"
+    ∷ ipv6 "00 00 00 00 00 00 00 00 00 00 FE FF C0 00 02 01" "::feff:c000:201"
+    ∷ ipv6 "00 00 00 00 00 00 00 00 00 00 7F FF C0 00 02 01" "::7fff:c000:201"
+    ∷ ipv6 "00 00 00 00 00 00 00 00 00 00 00 FF C0 00 02 01" "::ff:c000:201"
+    ∷ ipv6 "00 00 00 00 00 00 00 00 00 00 00 00 C0 00 02 01" "::c000:201"
+    ∷ ipv6 "00 00 00 00 00 00 00 00 00 01 FF FF C0 00 02 01" "::1:ffff:c000:201"
+    ∷ ipv6 "80 00 00 00 00 00 00 00 00 00 FF FF C0 00 02 01" "8000::ffff:c000:201"
+    ∷ ipv6 "00 00 00 00 00 00 00 00 FF FF 00 00 C0 00 02 01" "::ffff:0:c000:201"
+    ∷ []
+
+-- a text, and the address that it is read as
+pub record Said : Type 0 where
+  pub text : Bytes
+  pub address : Option Bytes
+
+-- the text is read as this address
+abbrev pub says : String → String → Said
+says t a = record { text = ascii t; address = some (hex a) }
+
+-- the text is no address
+abbrev pub saysNone : String → Said
+saysNone t = record { text = ascii t; address = none }
+
+-- what is read
+abbrev pub answeredSaid : Said → Said
+answeredSaid s = record { text = s .text; address = readAddress (s .text) }
+
+-- RULES 6.7
+unfoldable pub saidAddresses : List Said
+saidAddresses =
+    says "198.51.100.1" "C6 33 64 01"
+    ∷ says "[2001:db8::1:0:0:1]" "20 01 0D B8 00 00 00 00 00 01 00 00 00 00 00 01"
+    ∷ says "[::]" "00 00 00 00 00 00 00 00 00 00 00 00 00 00 00 00"
+    ∷ says "[::ffff:192.0.2.1]" "00 00 00 00 00 00 00 00 00 00 FF FF C0 00 02 01"
+    ∷ says "[::ffff:0.0.0.0]" "00 00 00 00 00 00 00 00 00 00 FF FF 00 00 00 00"
+    -- other forms of an IPv4-mapped address; the mixed form of others; decimals that are no bytes, or too few
+    ∷ saysNone "[::ffff:c000:201]"
+    ∷ saysNone "[::FFFF:192.0.2.1]"
+    ∷ saysNone "[0:0:0:0:0:ffff:192.0.2.1]"
+    ∷ saysNone "[::192.0.2.1]"
+    ∷ saysNone "[::fffe:192.0.2.1]"
+    ∷ saysNone "[::ffff:192.0.2.256]"
+    ∷ saysNone "[::ffff:192.0.2.01]"
+    ∷ saysNone "[::ffff:192.0.2]"
+    -- brackets that are missing, or too many; other forms of hex groups; decimals that are no IPv4 address; no digits
+    ∷ saysNone "::1"
+    ∷ saysNone "[::1"
+    ∷ saysNone "[::1]]"
+    ∷ saysNone "[0::1]"
+    ∷ saysNone "[2001:DB8::1]"
+    ∷ saysNone "1.2.3"
+    ∷ saysNone "1.2.3.04"
+    ∷ saysNone "1.2.3.256"
+    ∷ saysNone "a"
+    ∷ saysNone ""
     ∷ []
 
 -- ---- 11.6: option bytes, read back

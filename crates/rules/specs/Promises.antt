@@ -12,16 +12,18 @@ use Rattle.rules.specs.Model.{Host, Authority, discard, Span, Reference,
 use Rattle.rules.specs.Reader.{taken, Found, read}
 use Rattle.rules.specs.Meaning.{span, components, readReference, readAbsolute}
 use Rattle.rules.specs.Encode.{authorityItem, encode}
-use Rattle.rules.specs.Valid.{GoodHost, Valid}
+use Rattle.rules.specs.Valid.{GoodAddress, GoodHost, Valid}
 use Rattle.rules.specs.Amended.{EarlierValid, NoBrackets}
 use Rattle.rules.specs.Resolve.{openingAuthority, resolve, fits}
 use Rattle.rules.specs.Rules.{SchemeEntry}
+use Rattle.rules.specs.Address.{addressText}
+use Rattle.rules.specs.ReadAddress.{readAddress}
 use Rattle.rules.specs.Text.{uriText}
 use Rattle.rules.specs.Options.{CoapOption, option, uriHost, options, optionsFrom, coapScheme, readOptions, Codable}
 use Rattle.rules.specs.Writing.{allTexts, Sized, counted, inside}
 use Rattle.rules.specs.Calls.{lengthOf, outcome, after, readCall, resolveCall, textCall, optionsCall, writeCall}
 use Rattle.rules.specs.Views.{segmentView, Piece, ofReference, ofBase, authorityView, segmentShown, pieceShown, verdict}
-use Rattle.rules.specs.Cases.{AllHold, B, starred, unstarred, longBase, slips, steps, refusals, accepted, sizes, answeredRefusal, texts, answeredText, escaped, answeredEscape, requests, answeredRequest, codings, answeredCoding, addresses, ipv6Printed, segmentRows, answeredSegment, authorityRows, answeredAuthority, bases, answeredBase, labelBytes, answeredByte}
+use Rattle.rules.specs.Cases.{AllHold, B, starred, unstarred, longBase, slips, steps, refusals, accepted, sizes, answeredRefusal, texts, answeredText, escaped, answeredEscape, requests, answeredRequest, codings, answeredCoding, addresses, ipv6Printed, saidAddresses, answeredSaid, segmentRows, answeredSegment, authorityRows, answeredAuthority, bases, answeredBase, labelBytes, answeredByte}
 
 -- ---- the reader accepts exactly the encodings of valid references, and gives them back
 
@@ -238,6 +240,10 @@ Bound =
     → (length (uriText c) ≤ 3 * length bs + 13)
     × ((n : ℕ) → 3 * length bs + 13 ≤ n → outcome (textCall lim bs) n ≡ ok (length (uriText c)))
 
+-- RULES 6.7: a text is read as an address exactly if it is the text of that address
+abbrev pub AddressExact : Type 0
+AddressExact = (t a : Bytes) → (readAddress t ≡ some a) ↔ ((addressText a ≡ t) × GoodAddress a)
+
 -- ---- resolving
 
 -- resolving an accepted reference against an accepted absolute base gives an absolute CRI, whose reference is valid and read again
@@ -310,7 +316,7 @@ OptionsRead =
     (lim : Limits) (bs toAddress : Bytes) (toPort : ℕ) (w : Bytes) → Octets bs → optionsCall lim bs toAddress toPort ≡ ok w
     → Requested lim bs toAddress toPort w
 
--- the reason for that rule: two hosts with the same Uri-Host, neither being the destination's address, which has none, are the same host
+-- the reason for the amended rule on labels: two hosts with the same Uri-Host, neither being the destination's address, which has none, are the same host
 abbrev pub HostDetermined : Type 0
 HostDetermined =
     (h k : Host Bytes) (toAddress value : Bytes) → GoodHost h → GoodHost k → uriHost h toAddress ≡ option 3 value ∷ [] → uriHost k toAddress ≡ option 3 value ∷ []
@@ -330,7 +336,7 @@ abbrev pub Starred : Type 0
 Starred = AllHold B starred
 
 -- the remaining rows, the two slips, each item of a reference, refusals with their places, accepted inputs, sizes, texts, escapes, options,
--- option bytes read back, IPv6 texts, views, refused bases and bytes of labels, one statement
+-- option bytes read back, IPv6 texts, addresses read back, views, refused bases and bytes of labels, one statement
 pub record Examples : Type 0 where
   pub rows : AllHold B unstarred
   pub slipped : AllHold longBase slips
@@ -343,6 +349,7 @@ pub record Examples : Type 0 where
   pub options : map answeredRequest requests ≡ requests
   pub codings : map answeredCoding codings ≡ codings
   pub ipv6 : map ipv6Printed addresses ≡ addresses
+  pub said : map answeredSaid saidAddresses ≡ saidAddresses
   pub segments : map answeredSegment segmentRows ≡ segmentRows
   pub authorities : map answeredAuthority authorityRows ≡ authorityRows
   pub bases : map answeredBase bases ≡ bases

@@ -107,7 +107,7 @@ fn say_ipv6(a: &[u8]) {
     say(&room[..n]);
 }
 
-// An address: of 4 bytes dotted, of 16 by RFC 5952. No other bytes are one.
+// An address: of 4 bytes dotted, of 16 by RFC 5952, without brackets. No other bytes are one.
 pub fn say_address(a: &[u8]) {
     say_ipv4(a);
     say_ipv6(a);

@@ -1,7 +1,7 @@
 -- `bench::bench_put_ipv6` meets its contract.
 use native.Mathlib.Omega.{arith}
 use denote.Ref.{now}
-use Rattle.ipv6.proofs.GroupTexts.{ipv6-fits}
+use Rattle.ipv6.proofs.Mapped.{ipv6-fits}
 use borrow.Author.Needs.{needs}
 use Rattle.bench.proofs.bench_put_ipv6.Statement.{statement}
 use Rattle.bench.proofs.bench_put_ipv6.Tie as tie

@@ -4,7 +4,7 @@ use mathlib.Core.Path.{sym}
 use lib.Seq.{length-take-le}
 use denote.Ref.{now}
 use Rattle.put.proofs.Wrote.{wrote-length}
-use Rattle.ipv6.proofs.GroupTexts.{ipv6-fits}
+use Rattle.ipv6.proofs.Mapped.{ipv6-fits}
 use borrow.Author.Needs.{needs}
 use Rattle.tool_messages.proofs.quotes.say_ipv6.Statement.{statement}
 use Rattle.tool_messages.proofs.quotes.say_ipv6.Tie as tie
