@@ -1,18 +1,19 @@
 -- What the text of an address is, by how many bytes it has.
 use Prim.Native.Nat.{ℕ, _+_, _≤_}
 use mathlib.Core.Path.{_≡_, sym, ap, _∙_, subst}
-use mathlib.Core.Bool.{true, _||_}
+use mathlib.Core.Bool.{true}
 use mathlib.Core.List.{[], _∷_, _++_}
 use lib.ListN.{length}
 use lib.Dec.{eqb}
 use borrow.Author.Tests.{eqb-true, eq-eqb, ne-eqb}
 use Rattle.rules.specs.Bytes.{Bytes, part}
+use Rattle.rules.specs.Rules.{addressSize}
 use Rattle.rules.specs.Address.{ipv4Text, ipv6Text, leftBracket, rightBracket, addressText}
 use Rattle.rules.specs.Valid.{GoodAddress}
 use Rattle.rules.proofs.Tools.{or-right, cond-yes, cond-no, length-part}
 use Rattle.addresses.specs.AddressAt.{AddressAt}
 
-pub sixteen : (n : ℕ) → (n ≡ 4 → ⊥) → (eqb n 4 || eqb n 16) ≡ true → n ≡ 16
+pub sixteen : (n : ℕ) → (n ≡ 4 → ⊥) → addressSize n ≡ true → n ≡ 16
 sixteen n k h = eqb-true _ _ (or-right (eqb n 4) _ h (ne-eqb n 4 k))
 
 module _ (bs : Bytes) (from n : ℕ) where
@@ -29,4 +30,4 @@ module _ (bs : Bytes) (from n : ℕ) where
 
   -- an address of an accepted input
   pub address-at : from + n ≤ length bs → GoodAddress (part bs from n) → AddressAt bs from n
-  address-at h g = (h, subst (λ (k : ℕ). (eqb k 4 || eqb k 16) ≡ true) (length-part bs from n h) (g .size))
+  address-at h g = (h, subst (λ (k : ℕ). addressSize k ≡ true) (length-part bs from n h) (g .size))

@@ -2,14 +2,13 @@
 use Prim.Native.Nat.{ℕ, _≤_}
 use native.Mathlib.Omega.{arith}
 use mathlib.Core.Path.{_≡_, refl, sym, ap, _∙_}
-use mathlib.Core.Bool.{true, false, _||_}
+use mathlib.Core.Bool.{true, false}
 use mathlib.Core.Option.{Option, none, some, Option·getD, Option·map}
 use lib.ListN.{length}
-use lib.Dec.{eqb}
 use Rattle.rules.specs.Bytes.{Bytes, Octets}
 use Rattle.rules.specs.Result.{Res, refused, ok, need, given, _>>=_, _>>_, BASE, COAP, DEST}
 use Rattle.rules.specs.Model.{Scheme, Reference, limits, Cri, elements, absolute}
-use Rattle.rules.specs.Rules.{Sort, SchemeEntry, schemes, schemeIn, segment, parameter}
+use Rattle.rules.specs.Rules.{Sort, SchemeEntry, schemes, schemeIn, segment, parameter, addressSize}
 use Rattle.rules.specs.Reader.{contents, Slot, unset, set, HostAt, addressAt, labelsAt, AuthorityAt, SchemeAt, noScheme, numberAt, nameAt, OpeningAt, discardAt, discardAllAt, fullAt, Found, read}
 use Rattle.rules.specs.Meaning.{meaning, readReference, readAbsolute, saidTexts, saidText, saidHost, saidAuthority, saidOpening, said}
 use Rattle.rules.specs.Valid.{If, GoodTexts, GoodHost, GoodOpening}
@@ -31,7 +30,7 @@ use Rattle.coap_options.specs.Requests.{optionsAt, defaultAnswer, number
 -- ---- what the call answers
 
 module _ (bs toAddress : Bytes) (toPort : ℕ) where
-  pub address-refused : (eqb (length toAddress) 4 || eqb (length toAddress) 16) ≡ false → optionsCall limits bs toAddress toPort ≡ refused DEST 0
+  pub address-refused : addressSize (length toAddress) ≡ false → optionsCall limits bs toAddress toPort ≡ refused DEST 0
   unfolding optionsCall need _>>_
   address-refused e = rw e
 
@@ -39,11 +38,11 @@ module _ (bs toAddress : Bytes) (toPort : ℕ) where
   abbrev asked : Cri → Res Bytes
   asked c = given (coapScheme (c .scheme)) COAP 0 >>= λ s. need (absent (c .fragment)) COAP 0 >> ok (optionsFrom 0 (options c s toAddress toPort))
 
-  address-taken : (eqb (length toAddress) 4 || eqb (length toAddress) 16) ≡ true → optionsCall limits bs toAddress toPort ≡ (readAbsolute limits bs >>= asked)
+  address-taken : addressSize (length toAddress) ≡ true → optionsCall limits bs toAddress toPort ≡ (readAbsolute limits bs >>= asked)
   unfolding optionsCall need _>>_
   address-taken e = rw e
 
-  pub input-refused : (eqb (length toAddress) 4 || eqb (length toAddress) 16) ≡ true → (n k : ℕ) → read limits bs ≡ refused n k → optionsCall limits bs toAddress toPort ≡ refused n k
+  pub input-refused : addressSize (length toAddress) ≡ true → (n k : ℕ) → read limits bs ≡ refused n k → optionsCall limits bs toAddress toPort ≡ refused n k
   unfolding readAbsolute readReference _>>=_
   input-refused a n k e = address-taken a ∙ rw e
 
@@ -66,7 +65,7 @@ module _ (bs toAddress : Bytes) (toPort : ℕ) where
   opening-answered (fullAt (numberAt n) a) p q g = entry-answered _ (schemeIn schemes n) a p q g
   opening-answered (fullAt (nameAt at n) a) p q g = refl
 
-  pub found-answered : (eqb (length toAddress) 4 || eqb (length toAddress) 16) ≡ true → (f : Found) → read limits bs ≡ ok f → optionsCall limits bs toAddress toPort ≡ openingAnswer bs (f .opening) f toAddress toPort
+  pub found-answered : addressSize (length toAddress) ≡ true → (f : Found) → read limits bs ≡ ok f → optionsCall limits bs toAddress toPort ≡ openingAnswer bs (f .opening) f toAddress toPort
   found-answered a f e =
       address-taken a
       ∙ ap (λ (m : Res Cri). m >>= asked) (read-absolute limits bs f e ∙ ap (λ (r : Reference). given (absolute r) BASE 0) (meaning-said bs (f .opening) (f .path) (f .query) (f .fragment)))

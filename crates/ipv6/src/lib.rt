@@ -81,7 +81,7 @@ fn longest_run(src: &[u8], from: usize) -> Zeros
     z
 }
 
-// Whether an address is IPv4-mapped: its longest run of zeros is that of its first five groups, and the next one is ffff.
+// Whether an address is IPv4-mapped: its sixth group is ffff, and its longest run of zeros is that of the five before it.
 fn is_mapped(src: &[u8], from: usize, run: Zeros) -> bool
     requires { ⌜ from + 16 ≤ length (now src) ⌝ }
     requires { ⌜ run ≡ zerosFrom 0 (groups (part (now src) from 16)) ⌝ }

@@ -1,13 +1,12 @@
 -- The readers of the rules, case by case, as the code takes them.
 use Prim.Native.Nat.{ℕ, suc, _+_, _-_, _≤_, _<_}
 use native.Mathlib.Omega.{arith}
-use mathlib.Core.Path.{_≡_, refl, sym, ap, ap₂, _∙_, subst}
-use mathlib.Core.Logic.{_⊎_, inl, inr}
-use mathlib.Core.Bool.{Bool, true, false, _&&_, _||_}
+use mathlib.Core.Path.{_≡_, refl, sym, ap, _∙_}
+use mathlib.Core.Bool.{Bool, false, _&&_, _||_}
 use mathlib.Core.Option.{none}
 use lib.ListN.{length}
-use lib.Dec.{eqb, leb}
-use borrow.Author.Tests.{le-leb, lt-leb, le-ltb, lt-ltb, ne-eqb}
+use lib.Dec.{leb}
+use borrow.Author.Tests.{le-leb, lt-leb, le-ltb, lt-ltb}
 use Rattle.rules.specs.Bytes.{Bytes, Octets, within}
 use Rattle.rules.specs.Result.{refused, ok, CUT, FORM, LIMIT}
 use Rattle.rules.specs.Model.{Limits}
@@ -188,14 +187,6 @@ under low high n h = ap (λ t. t && leb n high) (lt-leb low n h)
 
 pub over : (low high n : ℕ) → high < n → within low high n ≡ false
 over low high n h = by-test (λ t. (t && leb n high) ≡ false) (leb low n) (λ y. lt-leb n high h) (λ y. refl)
-
--- 2.6: an address has 4 or 16 bytes
-pub address-yes : (n : ℕ) → (n ≡ 4) ⊎ (n ≡ 16) → true ≡ (eqb n 4 || eqb n 16)
-address-yes n (inl e) = subst (λ x. true ≡ (eqb x 4 || eqb x 16)) (sym e) refl
-address-yes n (inr e) = subst (λ x. true ≡ (eqb x 4 || eqb x 16)) (sym e) refl
-
-pub address-no : (n : ℕ) → ((n ≡ 4) ⊎ (n ≡ 16) → ⊥) → false ≡ (eqb n 4 || eqb n 16)
-address-no n h = sym (ap₂ _||_ (ne-eqb n 4 (λ e. h (inl e))) (ne-eqb n 16 (λ e. h (inr e))))
 
 -- ---- the opening
 

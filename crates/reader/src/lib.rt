@@ -6,6 +6,7 @@ ghost use lib.ListN.{length};
 ghost use lib.Dec.{eqb};
 ghost use Rattle.rules.specs.Bytes.{Bytes};
 ghost use Rattle.rules.specs.Model.{limits};
+ghost use Rattle.rules.specs.Rules.{addressSize};
 ghost use Rattle.rules.specs.Head.{Number, Negative, ByteString, Text, Array, True, Null, is, readHead};
 ghost use Rattle.rules.specs.Reader as R;
 ghost use Rattle.cbor.specs.Heads.{allows, accepted};
@@ -529,7 +530,7 @@ fn names_at(s: &[u8], at: usize, items: usize, count: usize) -> Names
 
 // Whether an address may have n bytes.
 pub fn is_address_length(n: u64) -> bool
-    ensures { λ r. ⌜ r ≡ (eqb n 4 || eqb n 16) ⌝ }
+    ensures { λ r. ⌜ r ≡ addressSize n ⌝ }
 {
     match n {
         4 | 16 => true,

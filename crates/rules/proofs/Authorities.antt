@@ -13,7 +13,7 @@ use Rattle.rules.specs.Bytes.{Bytes, Each, Octets, within, concat}
 use Rattle.rules.specs.Result.{ok, need, _>>=_, _>>_, if_then_else_}
 use Rattle.rules.specs.Model.{Host, address, labels, Authority}
 use Rattle.rules.specs.Head.{Kind, Number, ByteString, Text, Array, codeOf, is, Head, kindAt, headAt, readHead, headBytes}
-use Rattle.rules.specs.Rules.{label, nameRule}
+use Rattle.rules.specs.Rules.{label, nameRule, addressSize}
 use Rattle.rules.specs.Reader.{endAt, spans, contents, labelsAt, AuthorityAt, Names, readNothing, portBody, readPort, labelBody, readNames, addressHost, labelsHost, readAuthority, contentAt}
 use Rattle.rules.specs.Meaning.{saidHost, saidAuthority}
 use Rattle.rules.specs.Encode.{textItem, arrayItem, portItems, hostItems, authorityItem}
@@ -129,7 +129,7 @@ ok-addressHost bs start at left sm r e =
           (item-spells bs at sm r ByteString tt e l) (q .spells);
       items = ap suc (q .items);
       host = record {
-        size = subst (λ (n : ℕ). (eqb n 4 || eqb n 16) ≡ true) (sym (length-part bs (h .next) (h .value) l)) w;
+        size = subst (λ (n : ℕ). addressSize n ≡ true) (sym (length-part bs (h .next) (h .value) l)) w;
         octets = octets-part bs (h .next) (h .value) sm;
       };
       port = q .good;
@@ -296,7 +296,7 @@ yes-addressHost : {G : Type 0} (x : Bytes) (o : Option ℕ) (bs : Bytes) (start 
 unfolding addressHost
 yes-addressHost x o bs start at left rest p good port n w =
     let i = item-was ByteString x bs at (concat (portItems o) ++ rest) w in
-    yes-need _ _ _ _ (λ g. subst (λ (m : ℕ). (eqb m 4 || eqb m 16) ≡ true) (sym (w .value)) (good g .size))
+    yes-need _ _ _ _ (λ g. subst (λ (m : ℕ). addressSize m ≡ true) (sym (w .value)) (good g .size))
     (λ t. yes-content _ _ _ _ (i .2)
     (rw n (yes-bind _ _ (yes-port o bs (endAt bs at) rest p port (i .1)) (λ r q.
     yes! (record { says = same-authority (ap address (i .0)) (q .says); after = q .after })))))

@@ -2,20 +2,19 @@
 use Prim.Native.Nat.{ℕ, _+_, _≤_}
 use native.Mathlib.Omega.{arith}
 use mathlib.Core.Path.{_≡_, refl, sym, ap, _∙_}
-use mathlib.Core.Bool.{Bool, true, false, _||_, true≢false}
-use mathlib.Core.Logic.{inl, inr}
+use mathlib.Core.Bool.{Bool, true, false, true≢false}
 use mathlib.Core.Option.{Option, none, some}
 use lib.ListN.{length, drop, length-append, length-drop}
 use lib.Seq.{drop-at}
-use lib.Dec.{ltb, eqb}
-use borrow.Author.Tests.{le-ltb, lt-ltb, ltb-false, eqb-true}
+use lib.Dec.{ltb}
+use borrow.Author.Tests.{le-ltb, lt-ltb, ltb-false}
 use Rattle.rules.specs.Bytes.{Bytes, all}
 use Rattle.rules.specs.Result.{Res, refused, ok, need, given, _>>=_, _>>_, ROOM}
 use Rattle.rules.specs.Model.{Limits, Reference, Cri, Components, absolute, mapParts}
 use Rattle.rules.specs.Reader.{Found, taken, read}
 use Rattle.rules.specs.Meaning.{meaning, readReference, readAbsolute}
 use Rattle.rules.specs.Encode.{encode}
-use Rattle.rules.specs.Rules.{SchemeEntry}
+use Rattle.rules.specs.Rules.{SchemeEntry, addressSize}
 use Rattle.rules.specs.Resolve.{asBase, resolve, fits}
 use Rattle.rules.specs.Options.{coapScheme}
 use Rattle.rules.specs.Writing.{counted, inside, allTexts}
@@ -27,6 +26,7 @@ use Rattle.rules.specs.Promises.{IsAddress, OptionsAnswers, options-12, 
 use Rattle.rules.proofs.Tools.{cond-split}
 use Rattle.rules.proofs.Steps.{refused-ok}
 use Rattle.rules.proofs.RefusalNumbers.{numbers}
+use Rattle.rules.proofs.Addresses.{size-yes, size-no, size-is}
 
 -- ---- the room
 
@@ -164,38 +164,20 @@ text-answers lim bs = record { told = go (readReference lim bs) refl; only = onl
 
 -- ---- options
 
-is-address : (a : Bytes) → IsAddress a → (eqb (length a) 4 || eqb (length a) 16) ≡ true
-is-address a (inl e) = rw e
-is-address a (inr e) = rw e
-
-address-is : (a : Bytes) → (eqb (length a) 4 || eqb (length a) 16) ≡ true → IsAddress a
-address-is a e = go (eqb (length a) 4) refl
-  where
-    go : (t : Bool) → eqb (length a) 4 ≡ t → IsAddress a
-    go true d = inl (eqb-true (length a) 4 d)
-    go false d = inr (eqb-true (length a) 16 (rw d at e))
-
-no-address : (a : Bytes) → (IsAddress a → ⊥) → (eqb (length a) 4 || eqb (length a) 16) ≡ false
-no-address a h = go (eqb (length a) 4 || eqb (length a) 16) refl
-  where
-    go : (t : Bool) → (eqb (length a) 4 || eqb (length a) 16) ≡ t → t ≡ false
-    go true d = absurd (h (address-is a d))
-    go false d = refl
-
 pub options-answers : (lim : Limits) (bs toAddress : Bytes) (toPort : ℕ)
     → Decides (OptionsAnswers lim bs toAddress toPort) (optionsCall lim bs toAddress toPort)
 unfolding optionsCall readAbsolute given _>>=_ _>>_ need
-options-answers lim bs toAddress toPort = record { told = go (eqb (length toAddress) 4 || eqb (length toAddress) 16) refl; only = only }
+options-answers lim bs toAddress toPort = record { told = go (addressSize (length toAddress)) refl; only = only }
   where
     Answer : Type 0
     Answer = OptionsAnswers lim bs toAddress toPort (optionsCall lim bs toAddress toPort)
 
-    go : (t : Bool) → (eqb (length toAddress) 4 || eqb (length toAddress) 16) ≡ t → Answer
-    go false i = rw i (options-12 (λ a. true≢false (sym (is-address toAddress a) ∙ i)))
+    go : (t : Bool) → addressSize (length toAddress) ≡ t → Answer
+    go false i = rw i (options-12 (λ a. true≢false (sym (size-yes (length toAddress) a) ∙ i)))
     go true i = reads (readReference lim bs) refl
       where
         at : IsAddress toAddress
-        at = address-is toAddress i
+        at = size-is (length toAddress) i
 
         reads : (x : Res Reference) → readReference lim bs ≡ x → Answer
         reads (refused n k) e = rw (i, e) (options-own at (own-reference lim bs n k e) e)
@@ -214,12 +196,12 @@ options-answers lim bs toAddress toPort = record { told = go (eqb (length toAddr
                     fragment (some t) f = rw (i, e, a, s, ap absent f) (options-11-fragment {c = c} at (rw (e, a)) s f)
 
     only : (u : Res Bytes) → OptionsAnswers lim bs toAddress toPort u → optionsCall lim bs toAddress toPort ≡ u
-    only _ (options-12 h) = rw (no-address toAddress h)
-    only _ (options-own h o e) = rw (is-address toAddress h, e)
-    only _ (options-8 h e a) = rw (is-address toAddress h, e, a)
-    only _ (options-11-scheme h e s) = rw (is-address toAddress h, e, s)
-    only _ (options-11-fragment h e s f) = rw (is-address toAddress h, e, s, ap absent f)
-    only _ (options-done h e s f) = rw (is-address toAddress h, e, s, ap absent f)
+    only _ (options-12 h) = rw (size-no (length toAddress) h)
+    only _ (options-own h o e) = rw (size-yes (length toAddress) h, e)
+    only _ (options-8 h e a) = rw (size-yes (length toAddress) h, e, a)
+    only _ (options-11-scheme h e s) = rw (size-yes (length toAddress) h, e, s)
+    only _ (options-11-fragment h e s f) = rw (size-yes (length toAddress) h, e, s, ap absent f)
+    only _ (options-done h e s f) = rw (size-yes (length toAddress) h, e, s, ap absent f)
 
 -- ---- writing
 

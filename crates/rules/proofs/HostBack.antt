@@ -1,26 +1,21 @@
 -- The value of Uri-Host is read back as the host, so it determines the host.
 use mathlib.Core.Path.{_≡_, refl, sym, ap, _∙_}
-use mathlib.Core.Bool.{Bool, true, false, cond, _||_}
-use mathlib.Core.List.{List, [], _∷_, _++_, map, tail}
-use mathlib.Core.Option.{some}
-use lib.ListN.{length}
-use lib.Dec.{eqb}
-use borrow.Author.Tests.{eqb-true}
-use Rattle.rules.specs.Bytes.{Bytes, Each, Octets, dot, same, filled, starts, upto, split, join}
+use mathlib.Core.Bool.{Bool, true, false, cond}
+use mathlib.Core.List.{List, [], _∷_, map}
+use Rattle.rules.specs.Bytes.{Bytes, Each, dot, same, filled, starts, split, join}
 use Rattle.rules.specs.Model.{Host, address, labels}
 use Rattle.rules.specs.Rules.{labelByte, labelRule, label}
 use Rattle.rules.specs.Valid.{Good, GoodHost}
 use Rattle.rules.specs.Numeral.{digitByte, decimal}
-use Rattle.rules.specs.Address.{ipv4Text, ipv6Text, leftBracket, rightBracket, addressText}
-use Rattle.rules.specs.ReadAddress.{ipv6Bytes}
-use Rattle.rules.specs.Text.{marked}
+use Rattle.rules.specs.Address.{ipv4Text, leftBracket, addressText}
+use Rattle.rules.specs.ReadAddress.{addressBytes}
 use Rattle.rules.specs.Options.{CoapOption, option, uriHost}
 use Rattle.rules.proofs.Tools.{never, by-test, All, each-map, each-all}
-use Rattle.rules.proofs.Escapes.{lacks, all-lacks, Free, upto-cut, starts-free, free, split-join, join-all}
+use Rattle.rules.proofs.Escapes.{lacks, all-lacks, Free, starts-free, free, split-join, join-all}
 use Rattle.rules.proofs.Numerals.{decimals-all}
-use Rattle.rules.proofs.Addresses.{ipv6-back, six-free}
+use Rattle.rules.proofs.Addresses.{by-size, address-back}
 use Rattle.rules.proofs.UnText.{unHost}
-use Rattle.rules.proofs.TextBack.{fill-some, some-filled, decimals-host, decimals-some, labels-host}
+use Rattle.rules.proofs.TextBack.{fill-some, counted-filled, decimals-host, decimals-some, labels-host}
 
 -- RULES 7.1: what Uri-Host has
 abbrev hostValue : Host Bytes → Bytes
@@ -29,7 +24,7 @@ hostValue (address a) = addressText a
 
 -- the host that a value says
 unfoldable unValue : Bytes → Host Bytes
-unValue t = cond (starts leftBracket t) (address (ipv6Bytes (upto rightBracket (tail t)))) (unHost (split dot t))
+unValue t = cond (starts leftBracket t) (address (addressBytes t)) (unHost (split dot t))
 
 -- what no label holds
 abbrev lack : Bytes
@@ -49,21 +44,15 @@ unfolding labelRule labelByte
 labels-lack [] g = tt
 labels-lack (l ∷ ls) g = (all-lacks labelByte lack refl l (each-all labelByte l (g .0 .rule)), labels-lack ls (g .1))
 
--- an IPv6 address
-six-value : (bs : Bytes) → length bs ≡ 16 → Octets bs → unValue (leftBracket ∷ (ipv6Text bs ++ (rightBracket ∷ []))) ≡ address bs
-unfolding unValue marked
-six-value bs e h = rw (upto-cut rightBracket (ipv6Text bs) (some []) (six-free bs), ipv6-back bs e h)
-
 value-back : (h : Host Bytes) → GoodHost h → unValue (hostValue h) ≡ h
-unfolding addressText ipv4Text digitByte
+unfolding unValue ipv4Text digitByte
 value-back (labels ls) g =
-    name-value ls (some-filled 8 ls (g .texts .count)) (labels-lack ls (g .texts .each)) ∙ labels-host ls (g .name)
+    name-value ls (counted-filled 8 ls (g .texts .count)) (labels-lack ls (g .texts .each)) ∙ labels-host ls (g .name)
 value-back (address bs) g =
-    by-test (λ t. ((t || eqb (length bs) 16) ≡ true) → unValue (cond t (join dot (map decimal bs)) (leftBracket ∷ (ipv6Text bs ++ (rightBracket ∷ [])))) ≡ address bs)
-    (eqb (length bs) 4)
-    (λ e z. name-value (map decimal bs) (decimals-some bs (eqb-true _ _ e)) (decimals-all (lacks lack) refl bs) ∙ decimals-host bs (eqb-true _ _ e) (g .octets))
-    (λ e z. six-value bs (eqb-true _ _ z) (g .octets))
-    (g .size)
+    by-size (λ t. addressBytes t ≡ bs → unValue t ≡ address bs) bs g
+    (λ e _. name-value (map decimal bs) (decimals-some bs e) (decimals-all (lacks lack) refl bs) ∙ decimals-host bs e (g .octets))
+    (λ e back. ap address back)
+    (address-back bs g)
 
 -- the value of the first option
 abbrev valueIn : List CoapOption → Bytes

@@ -3,7 +3,7 @@ use mathlib.Core.Logic.{_↔_}
 use mathlib.Core.Path.{_≡_, refl, sym, ap, ap₂, _∙_}
 use Prim.Native.Nat.{ℕ, _≤_, _<_}
 use native.Mathlib.Omega.{arith}
-use mathlib.Core.Bool.{Bool, true, false, not, cond, _&&_, _||_}
+use mathlib.Core.Bool.{Bool, true, false, not, _&&_}
 use mathlib.Core.Option.{Option, none, some, Option·map}
 use mathlib.Core.List.{List, [], _∷_, _++_, map, append-assoc}
 use lib.ListN.{length, length-map}
@@ -14,15 +14,15 @@ use Rattle.rules.specs.Model.{Scheme, number, name, Host, address, label
 use Rattle.rules.specs.Rules.{label, segment, parameter, fragmentText, SchemeEntry, schemes, schemeIn, knownScheme, schemeByte, startsLower, schemeRule, labelByte, labelRule, octet, looksIPv4, nameRule}
 use Rattle.rules.specs.Valid.{If, Good, GoodTexts, GoodHost, GoodAuthority, GoodScheme}
 use Rattle.rules.specs.Numeral.{digitByte, decimal}
-use Rattle.rules.specs.Address.{ipv4Text, ipv6Text, leftBracket, rightBracket, addressText}
+use Rattle.rules.specs.Address.{ipv4Text, ipv6Text, leftBracket, rightBracket}
 use Rattle.rules.specs.Text.{Class, Label, Segment, Parameter, Fragment, bare, hexDigit, escape, marked, entryName, schemeText, hostText, authorityText, pathText, queryText, hierarchyText, uriText}
-use Rattle.rules.proofs.Tools.{never, by-test, and-left, and-right, All, each-append, each-map, each-all, all-octets, allBelow, allOf, same-refl}
+use Rattle.rules.proofs.Tools.{and-left, and-right, All, each-append, each-map, each-all, all-octets, allBelow, allOf, same-refl, some-filled, within-low}
 use Rattle.rules.proofs.Openings.{of-schemes}
 use Rattle.rules.proofs.Utf8Bytes.{good-octets, goods-octets}
 use Rattle.rules.proofs.Absolutes.{GoodCri}
 use Rattle.rules.proofs.Escapes.{lacks, lacks-of, all-lacks, unescape, unescape-escape, escape-all, escapes-lack, escape-bare, Free, upto-cut, after-cut, free, fill, split-join, join-all}
 use Rattle.rules.proofs.Numerals.{decimal-value, decimal-all, decimals-all, decimals-values, decimal-octet}
-use Rattle.rules.proofs.Addresses.{ipv6-back, ipv6-all, six-free}
+use Rattle.rules.proofs.Addresses.{by-size, ipv6-back, ipv6-all, six-free}
 use Rattle.rules.proofs.UnText.{numberIn, unScheme, unescapes, unParts, opened, unPort, unHost, unName, unBracket, unAuthority, slashes, unText}
 
 -- ---- parts: escaped, joined, split and unescaped
@@ -127,9 +127,8 @@ pub fill-some : (ps : List Bytes) → filled ps ≡ true → fill ps ≡ ps
 fill-some [] h = cc
 fill-some (p ∷ ps) h = refl
 
-pub some-filled : (high : ℕ) (ls : List Bytes) → within 1 high (length ls) ≡ true → filled ls ≡ true
-some-filled high [] h = never h
-some-filled high (l ∷ ls) h = refl
+pub counted-filled : (high : ℕ) (ls : List Bytes) → within 1 high (length ls) ≡ true → filled ls ≡ true
+counted-filled high ls h = some-filled ls (within-low 1 high (length ls) h)
 
 -- a name: labels, and also the four decimals of an IPv4 address
 module _ (ls : List Bytes) (few : filled ls ≡ true) (bytes : Each Octets ls) (lack : Each (All (lacks nameLack)) (map (escape Label) ls)) where
@@ -201,8 +200,7 @@ unfolding unHost
 decimals-host bs e h = rw (length-map bs decimal, e, decimals-octets bs h, decimals-values bs h)
 
 pub decimals-some : (bs : Bytes) → length bs ≡ 4 → filled (map decimal bs) ≡ true
-decimals-some [] e = let z : _≡_ {A = ℕ} 0 1 = omega arith in cc
-decimals-some (b ∷ bs) e = refl
+decimals-some bs e = some-filled (map decimal bs) (omega (arith, length-map bs decimal))
 
 -- labels
 label-lacks : (l : Bytes) → Good label l → All (lacks nameLack) (escape Label l)
@@ -239,18 +237,16 @@ four-back bs p e h k =
     )
 
 host-back : (h : Host Bytes) (p : Option ℕ) → GoodHost h → If (λ n. n ≤ 65535) p → Back (hostText h ++ marked colon (Option·map decimal p)) (record { host = h; port = p })
-unfolding hostText addressText ipv4Text
+unfolding hostText ipv4Text
 host-back (labels ls) p h k =
     let lack : Each (All (lacks nameLack)) (map (escape Label) ls) = labels-lack ls (h .texts .each) in
     let bytes : Each Octets ls = goods-octets label ls (h .texts .each) in
-    let few : filled ls ≡ true = some-filled 8 ls (h .texts .count) in
+    let few : filled ls ≡ true = counted-filled 8 ls (h .texts .count) in
     (rw (labels-host ls (h .name)) at (name-back ls few bytes lack p k), name-all ls few bytes lack p)
 host-back (address bs) p h k =
-    by-test (λ t. ((t || eqb (length bs) 16) ≡ true) → Back (cond t (join dot (map decimal bs)) (leftBracket ∷ (ipv6Text bs ++ (rightBracket ∷ []))) ++ marked colon (Option·map decimal p)) (record { host = address bs; port = p }))
-    (eqb (length bs) 4)
-    (λ e z. four-back bs p (eqb-true _ _ e) (h .octets) k)
-    (λ e z. let s : length bs ≡ 16 = eqb-true _ _ z in (six-back bs s (h .octets) p k, six-all bs s (h .octets) p))
-    (h .size)
+    by-size (λ t. Back (t ++ marked colon (Option·map decimal p)) (record { host = address bs; port = p })) bs h
+    (λ e. four-back bs p e (h .octets) k)
+    (λ e. (six-back bs e (h .octets) p k, six-all bs e (h .octets) p))
 
 authority-back : (a : Authority Bytes) → GoodAuthority a → Back (authorityText a) a
 unfolding authorityText
@@ -289,7 +285,7 @@ Parameters ps = (filled ps ≡ true) × Each Octets ps
 
 parameters-octets : (q : Option (List Bytes)) → If (GoodTexts parameter 1 16) q → If Parameters q
 parameters-octets none g = tt
-parameters-octets (some ps) g = (some-filled 16 ps (g .count), goods-octets parameter ps (g .each))
+parameters-octets (some ps) g = (counted-filled 16 ps (g .count), goods-octets parameter ps (g .each))
 
 fragment-octets : (f : Option Bytes) → If (Good fragmentText) f → If Octets f
 fragment-octets none g = tt

@@ -2,12 +2,11 @@
 use Prim.Native.Nat.{ℕ, suc, _+_, _-_, _*_, _≤_}
 use native.Mathlib.Omega.{arith}
 use mathlib.Core.Path.{_≡_, refl}
-use mathlib.Core.Bool.{true, cond, _||_}
 use mathlib.Core.Option.{Option, none, some, Option·map}
 use mathlib.Core.List.{List, [], _∷_, _++_, map}
 use lib.ListN.{length, length-append}
-use lib.Dec.{leb, ltb, eqb}
-use borrow.Author.Tests.{eqb-true, leb-true, ltb-true, ltb-false}
+use lib.Dec.{leb, ltb}
+use borrow.Author.Tests.{leb-true, ltb-true, ltb-false}
 use Rattle.rules.specs.Bytes.{Bytes, Octets, dot, colon, slash, question, hash, ampersand, all, concat, join}
 use Rattle.rules.specs.Result.{ok}
 use Rattle.rules.specs.Model.{Scheme, number, name, Host, address, labels, Authority, Limits, Cri, elements}
@@ -17,7 +16,7 @@ use Rattle.rules.specs.Meaning.{readAbsolute}
 use Rattle.rules.specs.Encode.{textItem, textsItem, orNull, tailItems, portItems, hostItems, authorityItem, schemeItem, withOpening, encode}
 use Rattle.rules.specs.Valid.{GoodAddress, GoodHost, GoodScheme}
 use Rattle.rules.specs.Numeral.{decimal}
-use Rattle.rules.specs.Address.{ipv4Text, ipv6Text, leftBracket, rightBracket, addressText}
+use Rattle.rules.specs.Address.{ipv4Text, ipv6Text, rightBracket, addressText}
 use Rattle.rules.specs.Text.{Class, Label, Segment, Parameter, Fragment, escape, marked, entryName, schemeText, hostText, authorityText, pathText, queryText, hierarchyText, uriText}
 use Rattle.rules.proofs.Tools.{by-test, concat-append}
 use Rattle.rules.proofs.Heads.{head-some, head-two}
@@ -26,7 +25,7 @@ use Rattle.rules.proofs.RowLengths.{text-length, array-length}
 use Rattle.rules.proofs.Absolutes.{withPath, GoodCri, good-read, EncodedAs, encoded-as}
 use Rattle.rules.proofs.Escapes.{escape-length}
 use Rattle.rules.proofs.Numerals.{decimal-length, decimal-two, decimal-three}
-use Rattle.rules.proofs.Addresses.{ipv6-length}
+use Rattle.rules.proofs.Addresses.{by-size, ipv6-length}
 
 -- ---- items
 
@@ -93,13 +92,11 @@ ipv4-length (b ∷ a ∷ bs) h =
     rw (length-append (decimal b) (dot ∷ join dot (map decimal (a ∷ bs)))) (omega (arith, decimal-three b (h .0), ipv4-length (a ∷ bs) (h .1)))
 
 pub address-length : (bs : Bytes) → GoodAddress bs → length (addressText bs) ≤ 3 * (length bs + 1)
-unfolding addressText ipv4Text
+unfolding ipv4Text
 address-length bs h =
-    by-test (λ t. ((t || eqb (length bs) 16) ≡ true) → length (cond t (join dot (map decimal bs)) (leftBracket ∷ (ipv6Text bs ++ (rightBracket ∷ [])))) ≤ 3 * (length bs + 1))
-    (eqb (length bs) 4)
-    (λ e z. let f : length bs ≡ 4 = eqb-true _ _ e in omega (arith, ipv4-length bs (h .octets)))
-    (λ e z. let s : length bs ≡ 16 = eqb-true _ _ z in rw (length-append (ipv6Text bs) (rightBracket ∷ [])) (omega (arith, ipv6-length bs s)))
-    (h .size)
+    by-size (λ (t : Bytes). length t ≤ 3 * (length bs + 1)) bs h
+    (λ e. omega (arith, ipv4-length bs (h .octets)))
+    (λ e. rw (length-append (ipv6Text bs) (rightBracket ∷ [])) (omega (arith, ipv6-length bs e)))
 
 host-length : (h : Host Bytes) → GoodHost h → length (hostText h) ≤ 3 * length (concat (hostItems h))
 unfolding hostText hostItems concat

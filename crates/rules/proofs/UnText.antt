@@ -1,5 +1,5 @@
 -- The reading of URI text back, for the proof that a text determines its CRI.
--- It takes more texts than are written: bare bytes that should be escaped, and escapes of bytes that may be bare.
+-- It takes more texts than are written: bare bytes that should be escaped, escapes of bytes that may be bare, and anything in brackets.
 use Prim.Native.Nat.{ℕ}
 use mathlib.Core.Bool.{cond, _&&_}
 use mathlib.Core.Option.{Option, none, some}

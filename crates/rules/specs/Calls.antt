@@ -1,13 +1,14 @@
 -- RULES 3: what each public call answers: a refusal with its number and place, or what it gives; and every byte of the room that it writes into.
 use Prim.Native.Nat.{ℕ}
-use mathlib.Core.Bool.{Bool, true, false, cond, _||_}
+use mathlib.Core.Bool.{Bool, true, false, cond}
 use mathlib.Core.List.{_++_}
 use mathlib.Core.Option.{Option, none, some}
 use lib.ListN.{length, drop}
-use lib.Dec.{ltb, eqb}
+use lib.Dec.{ltb}
 use Rattle.rules.specs.Bytes.{Bytes, all}
 use Rattle.rules.specs.Result.{Res, refused, ok, need, given, _>>=_, _>>_, LIMIT, RESULT, ROOM, COAP, DEST}
 use Rattle.rules.specs.Model.{Limits, Components, mapParts, reference}
+use Rattle.rules.specs.Rules.{addressSize}
 use Rattle.rules.specs.Reader.{taken, read}
 use Rattle.rules.specs.Meaning.{components, readReference, readAbsolute}
 use Rattle.rules.specs.Encode.{encode}
@@ -71,7 +72,7 @@ absent (some a) = false
 -- 3.5: 12, then 1 to 7, then 8 if not absolute, then 11
 unfoldable pub optionsCall : Limits → Bytes → Bytes → ℕ → Res Bytes
 optionsCall lim bs toAddress toPort = do
-  need (eqb (length toAddress) 4 || eqb (length toAddress) 16) DEST 0
+  need (addressSize (length toAddress)) DEST 0
   c ← readAbsolute lim bs
   s ← given (coapScheme (c .scheme)) COAP 0
   need (absent (c .fragment)) COAP 0

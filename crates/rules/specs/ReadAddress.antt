@@ -1,11 +1,11 @@
 -- RULES 6.7: a text read as an address. Whatever it is, it is taken apart as the text of an address, and then compared with the text of that one.
 use Prim.Native.Nat.{ℕ, _+_, _-_, _/_, _%_}
-use mathlib.Core.Bool.{Bool, cond, _&&_, _||_}
+use mathlib.Core.Bool.{Bool, cond, _&&_}
 use mathlib.Core.List.{List, [], _∷_, _++_, map, tail}
 use mathlib.Core.Option.{Option, none, some}
 use lib.ListN.{length, drop, replicate}
-use lib.Dec.{eqb}
 use Rattle.rules.specs.Bytes.{Bytes, byte, dot, colon, all, member, same, filled, starts, upto, split}
+use Rattle.rules.specs.Rules.{addressSize}
 use Rattle.rules.specs.Numeral.{value}
 use Rattle.rules.specs.Address.{mappedStart, leftBracket, rightBracket, addressText}
 
@@ -57,9 +57,9 @@ addressBytes t = cond (starts leftBracket t) (ipv6Bytes (upto rightBracket (tail
 
 -- ---- 6.7
 
--- 2.6: an address of 4 or 16 bytes
+-- 2.6: the numbers are an address
 unfoldable pub isAddress : Bytes → Bool
-isAddress a = (eqb (length a) 4 || eqb (length a) 16) && all byte a
+isAddress a = addressSize (length a) && all byte a
 
 -- the address whose text this is
 unfoldable pub readAddress : Bytes → Option Bytes

@@ -11,7 +11,7 @@ use Rattle.rules.specs.Result.{Res, refused, ok, need, _>>=_, _>>_, if_t
 use Rattle.rules.specs.Model.{Span, Limits, mostLabels, mostParameters}
 use Rattle.rules.specs.Utf8.{utf8}
 use Rattle.rules.specs.Head.{Kind, Number, Negative, ByteString, Text, Array, True, Null, Other, is, Head, headAt, readHead}
-use Rattle.rules.specs.Rules.{Sort, segment, parameter, fragmentText, label, schemeName, knownScheme, nameRule}
+use Rattle.rules.specs.Rules.{Sort, segment, parameter, fragmentText, label, schemeName, knownScheme, nameRule, addressSize}
 
 -- ---- texts
 
@@ -172,7 +172,7 @@ readNames bs at (suc left) n = do
 -- 2.6: an address has 4 or 16 bytes
 unfoldable pub addressHost : Bytes → ℕ → ℕ → ℕ → Head → Res AuthorityAt
 addressHost bs start at left h = do
-  need (eqb (h .value) 4 || eqb (h .value) 16) LIMIT at
+  need (addressSize (h .value)) LIMIT at
   a ← readContent bs at h
   p ← readPort bs (h .next + h .value) left
   ok (record { at = start; host = addressAt (h .next) (h .value); port = p .port; next = p .next })

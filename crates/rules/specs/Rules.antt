@@ -127,3 +127,7 @@ parameter = record { low = 0; high = 255; rule = free }
 -- 2.4
 abbrev pub fragmentText : Sort
 fragmentText = record { low = 0; high = 255; rule = free }
+
+-- 2.6: an address has 4 or 16 bytes
+abbrev pub addressSize : ℕ → Bool
+addressSize n = eqb n 4 || eqb n 16

@@ -1,15 +1,14 @@
 -- References that keep the rules and the sizes, said of what they hold and not of how they are read.
 use Prim.Native.Nat.{ℕ, _≤_}
 use mathlib.Core.Path.{_≡_}
-use mathlib.Core.Bool.{true, _||_}
+use mathlib.Core.Bool.{true}
 use mathlib.Core.List.{List}
 use mathlib.Core.Option.{Option, none, some}
 use lib.ListN.{length}
-use lib.Dec.{eqb}
 use Rattle.rules.specs.Bytes.{Bytes, Each, Octets, within}
 use Rattle.rules.specs.Model.{Scheme, number, name, Host, address, labels, Authority, Opening, discard, discardAll, full, Reference, Limits, mostLabels, mostParameters}
 use Rattle.rules.specs.Utf8.{utf8}
-use Rattle.rules.specs.Rules.{Sort, schemeName, label, segment, parameter, fragmentText, knownScheme, nameRule}
+use Rattle.rules.specs.Rules.{Sort, schemeName, label, segment, parameter, fragmentText, knownScheme, nameRule, addressSize}
 use Rattle.rules.specs.Encode.{encode}
 
 -- a statement of what is set
@@ -30,7 +29,7 @@ pub record GoodTexts (s : Sort) (low high : ℕ) (ts : List Bytes) : Type 0 wher
 
 -- 2.6: an address of 4 or 16 bytes
 pub record GoodAddress (a : Bytes) : Type 0 where
-  pub size : (eqb (length a) 4 || eqb (length a) 16) ≡ true
+  pub size : addressSize (length a) ≡ true
   pub octets : Octets a
 
 -- From here on l is the sort of labels: `label`, or that of a rule which was amended (Amended).
