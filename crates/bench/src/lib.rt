@@ -161,12 +161,12 @@ pub extern "C" fn bench_put_escaped(room: &mut [u8], src: &[u8], class: u8) -> u
     ensures { λ r. ⌜ Wrote (now (room .entry)) 0 (escape (classOf class) (now (src .entry))) (now (room .exit)) r ⌝ }
 {
     let k = class_of(class);
-    let bits = uri_escape::bare_bits(k);
-    if room.len() < uri_escape::escaped_length(src, 0, src.len(), k, &bits) {
+    let table = uri_escape::bare_table();
+    if room.len() < uri_escape::long_length(src, 0, src.len(), k, &table) {
         return 0;
     }
     let digits = uri_escape::upper_hex_digits();
-    uri_escape::put_escaped(room, 0, src, 0, src.len(), k, &bits, &digits)
+    uri_escape::put_long(room, 0, src, 0, src.len(), k, &table, &digits)
 }
 
 // The IPv6 address in the first 16 bytes, into a room of 49.

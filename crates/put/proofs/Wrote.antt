@@ -159,7 +159,7 @@ sets-over l (a ∷ v) (b ∷ w) i h =
     ap (λ (l : Bytes). sets l (suc i) w) (set-sets (set l i a) v i (suc i) b (omega arith) ∙ ap (λ (l : Bytes). sets l (suc i) v) (set-set l i a b))
     ∙ sets-over (set l i b) v w (suc i) (omega arith)
 
-part-add : (s : Bytes) (from j m : ℕ) → part s from (j + m) ≡ part s from j ++ part s (from + j) m
+pub part-add : (s : Bytes) (from j m : ℕ) → part s from (j + m) ≡ part s from j ++ part s (from + j) m
 part-add s from j m = take-add j m (drop from s) ∙ ap (λ (l : Bytes). part s from j ++ take m l) (drop-drop j from s)
 
 -- the first k bytes of a part were written, and then the m bytes after its first j, which overlap them or follow them

@@ -8,6 +8,7 @@ ghost use Rattle.rules.specs.Meaning.{saidTexts, saidText, saidHost, saidScheme
 ghost use Rattle.rules.specs.Valid.{GoodPort};
 ghost use Rattle.rules.specs.Standing.{SchemeStands, TextStands};
 ghost use Rattle.put.specs.Wrote.{Wrote};
+ghost use Rattle.uri_escape.specs.Escape.{Table};
 ghost use Rattle.reader.specs.Answers.{slotOf, hostOf, portOf, schemeOf};
 ghost use Rattle.uri_parts.specs.Pieces.{schemePiece, hostPiece, portPiece, pathPiece, queryPiece, fragmentPiece, HostPrints, TextsPrint, Short};
 use addresses::address_length;
@@ -23,9 +24,8 @@ use reader::Slot;
 use schemes::name_length;
 use schemes::put_name;
 use uri_escape::Class;
-use uri_escape::bare_bits;
-use uri_escape::escaped_length;
-use uri_escape::put_escaped;
+use uri_escape::long_length;
+use uri_escape::put_long;
 use uri_escape::upper_hex_digits;
 use uri_rows::put_row;
 use uri_rows::row_length;
@@ -62,7 +62,8 @@ pub fn put_scheme(room: &mut [u8], at: usize, s: &[u8], scheme: SchemeAt) -> usi
 // ---- authority; the "/" before the host is the last of "://"
 
 // How long a "/" and a host are.
-pub fn host_length(s: &[u8], host: HostAt) -> usize
+pub fn host_length(s: &[u8], host: HostAt, table: &[u8; 256]) -> usize
+    requires { ⌜ Table (now table) ⌝ }
     requires { ⌜ length (now s) ≤ limits .bytes ⌝ }
     requires { ⌜ HostPrints (now s) (hostOf host) ⌝ }
     requires { ⌜ Short (hostPiece (saidHost (now s) (hostOf host))) ⌝ }
@@ -73,12 +74,13 @@ pub fn host_length(s: &[u8], host: HostAt) -> usize
             at: from,
             length: n,
         } => 1 + address_length(s, from, n),
-        HostAt::Labels { at: from, count: n } => row_length(s, from, n, Class::Label),
+        HostAt::Labels { at: from, count: n } => row_length(s, from, n, Class::Label, table),
     }
 }
 
 // A "/" and a host: an address, or labels joined by ".".
-pub fn put_host(room: &mut [u8], at: usize, s: &[u8], host: HostAt) -> usize
+pub fn put_host(room: &mut [u8], at: usize, s: &[u8], host: HostAt, table: &[u8; 256]) -> usize
+    requires { ⌜ Table (now table) ⌝ }
     requires { ⌜ HostPrints (now s) (hostOf host) ⌝ }
     requires { ⌜ at + length (hostPiece (saidHost (now s) (hostOf host))) ≤ length (now room) ⌝ }
     ensures { λ r. ⌜ Wrote (now (room .entry)) at (hostPiece (saidHost (now (s .entry)) (hostOf host))) (now (room .exit)) r ⌝ }
@@ -100,6 +102,7 @@ pub fn put_host(room: &mut [u8], at: usize, s: &[u8], host: HostAt) -> usize
             Class::Label,
             b'/',
             b'.',
+            table,
         ),
     }
 }
@@ -134,19 +137,21 @@ pub fn put_port(room: &mut [u8], at: usize, port: Port) -> usize
 // ---- path, query, fragment
 
 // How long a "/" and a path are.
-pub fn path_length(s: &[u8], path: Slot) -> usize
+pub fn path_length(s: &[u8], path: Slot, table: &[u8; 256]) -> usize
+    requires { ⌜ Table (now table) ⌝ }
     requires { ⌜ length (now s) ≤ limits .bytes ⌝ }
     requires { ⌜ TextsPrint (now s) (slotOf path) ⌝ }
     ensures { λ r. ⌜ r ≡ length (pathPiece (saidTexts (now (s .entry)) (slotOf path))) ⌝ }
 {
     match path {
         Slot::Unset => 1,
-        Slot::Set { at, count: n } => row_length(s, at, n, Class::Segment),
+        Slot::Set { at, count: n } => row_length(s, at, n, Class::Segment, table),
     }
 }
 
 // A "/" and the segments joined by "/", if there are any.
-pub fn put_path(room: &mut [u8], at: usize, s: &[u8], path: Slot) -> usize
+pub fn put_path(room: &mut [u8], at: usize, s: &[u8], path: Slot, table: &[u8; 256]) -> usize
+    requires { ⌜ Table (now table) ⌝ }
     requires { ⌜ TextsPrint (now s) (slotOf path) ⌝ }
     requires { ⌜ at + length (pathPiece (saidTexts (now s) (slotOf path))) ≤ length (now room) ⌝ }
     ensures { λ r. ⌜ Wrote (now (room .entry)) at (pathPiece (saidTexts (now (s .entry)) (slotOf path))) (now (room .exit)) r ⌝ }
@@ -162,24 +167,27 @@ pub fn put_path(room: &mut [u8], at: usize, s: &[u8], path: Slot) -> usize
             Class::Segment,
             b'/',
             b'/',
+            table,
         ),
     }
 }
 
 // How long a "?" and a query are, if one is set.
-pub fn query_length(s: &[u8], query: Slot) -> usize
+pub fn query_length(s: &[u8], query: Slot, table: &[u8; 256]) -> usize
+    requires { ⌜ Table (now table) ⌝ }
     requires { ⌜ length (now s) ≤ limits .bytes ⌝ }
     requires { ⌜ TextsPrint (now s) (slotOf query) ⌝ }
     ensures { λ r. ⌜ r ≡ length (queryPiece (saidTexts (now (s .entry)) (slotOf query))) ⌝ }
 {
     match query {
         Slot::Unset => 0,
-        Slot::Set { at, count: n } => row_length(s, at, n, Class::Parameter),
+        Slot::Set { at, count: n } => row_length(s, at, n, Class::Parameter, table),
     }
 }
 
 // A "?" and the parameters joined by "&", if a query is set.
-pub fn put_query(room: &mut [u8], at: usize, s: &[u8], query: Slot) -> usize
+pub fn put_query(room: &mut [u8], at: usize, s: &[u8], query: Slot, table: &[u8; 256]) -> usize
+    requires { ⌜ Table (now table) ⌝ }
     requires { ⌜ TextsPrint (now s) (slotOf query) ⌝ }
     requires { ⌜ at + length (queryPiece (saidTexts (now s) (slotOf query))) ≤ length (now room) ⌝ }
     ensures { λ r. ⌜ Wrote (now (room .entry)) at (queryPiece (saidTexts (now (s .entry)) (slotOf query))) (now (room .exit)) r ⌝ }
@@ -195,12 +203,14 @@ pub fn put_query(room: &mut [u8], at: usize, s: &[u8], query: Slot) -> usize
             Class::Parameter,
             b'?',
             b'&',
+            table,
         ),
     }
 }
 
 // How long a "#" and a fragment are, if one is set.
-pub fn fragment_length(s: &[u8], fragment: Slot) -> usize
+pub fn fragment_length(s: &[u8], fragment: Slot, table: &[u8; 256]) -> usize
+    requires { ⌜ Table (now table) ⌝ }
     requires { ⌜ length (now s) ≤ limits .bytes ⌝ }
     requires { ⌜ TextStands (now s) (slotOf fragment) ⌝ }
     requires { ⌜ Short (fragmentPiece (saidText (now s) (slotOf fragment))) ⌝ }
@@ -208,15 +218,19 @@ pub fn fragment_length(s: &[u8], fragment: Slot) -> usize
 {
     match fragment {
         Slot::Unset => 0,
-        Slot::Set { at, count: n } => {
-            let bits = bare_bits(Class::Fragment);
-            1 + escaped_length(s, at, n, Class::Fragment, &bits)
-        }
+        Slot::Set { at, count: n } => { 1 + long_length(s, at, n, Class::Fragment, table) }
     }
 }
 
 // A "#" and a fragment, if one is set.
-pub fn put_fragment(room: &mut [u8], at: usize, s: &[u8], fragment: Slot) -> usize
+pub fn put_fragment(
+    room: &mut [u8],
+    at: usize,
+    s: &[u8],
+    fragment: Slot,
+    table: &[u8; 256],
+) -> usize
+    requires { ⌜ Table (now table) ⌝ }
     requires { ⌜ TextStands (now s) (slotOf fragment) ⌝ }
     requires { ⌜ at + length (fragmentPiece (saidText (now s) (slotOf fragment))) ≤ length (now room) ⌝ }
     ensures { λ r. ⌜ Wrote (now (room .entry)) at (fragmentPiece (saidText (now (s .entry)) (slotOf fragment))) (now (room .exit)) r ⌝ }
@@ -224,10 +238,9 @@ pub fn put_fragment(room: &mut [u8], at: usize, s: &[u8], fragment: Slot) -> usi
     match fragment {
         Slot::Unset => at,
         Slot::Set { at: from, count: n } => {
-            let bits = bare_bits(Class::Fragment);
             let digits = upper_hex_digits();
             let p = put_byte(room, at, b'#');
-            put_escaped(room, p, s, from, n, Class::Fragment, &bits, &digits)
+            put_long(room, p, s, from, n, Class::Fragment, table, &digits)
         }
     }
 }

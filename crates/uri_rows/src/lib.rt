@@ -9,29 +9,28 @@ ghost use Rattle.rules.specs.Reader.{contents};
 ghost use Rattle.rules.specs.Text.{escape};
 ghost use Rattle.rules.specs.Standing.{RowAt};
 ghost use Rattle.put.specs.Wrote.{Wrote};
-ghost use Rattle.uri_escape.specs.Escape.{classIs};
+ghost use Rattle.uri_escape.specs.Escape.{classIs, Table};
 ghost use Rattle.uri_rows.specs.Marked.{markedEach};
 use cbor::span_at;
 use put::put_byte;
 use uri_escape::Class;
-use uri_escape::bare_bits;
 use uri_escape::escaped_length;
 use uri_escape::put_escaped;
 use uri_escape::upper_hex_digits;
 
 // How long the texts are, each escaped and after a mark.
-fn marked_length(s: &[u8], at: usize, count: usize, class: Class) -> usize
+fn marked_length(s: &[u8], at: usize, count: usize, class: Class, table: &[u8; 256]) -> usize
+    requires { ⌜ Table (now table) ⌝ }
     requires { ⌜ RowAt (now s) at count ⌝ }
     requires { ⌜ length (now s) ≤ limits .bytes ⌝ }
     ensures { λ r. ⌜ ((first further : ℕ) → r ≡ length (markedEach (classIs class) first further (contents (now (s .entry)) at count))) ⌝ }
 {
-    let bits = bare_bits(class);
     let mut next = at;
     let mut left = count;
     let mut total: usize = 0;
     while 0 < left {
         let span = span_at(s, next);
-        total += 1 + escaped_length(s, span.start, span.length, class, &bits);
+        total += 1 + escaped_length(s, span.start, span.length, class, table);
         next = span.start + span.length;
         left -= 1;
     }
@@ -48,12 +47,13 @@ fn put_marked(
     class: Class,
     first: u8,
     further: u8,
+    table: &[u8; 256],
 ) -> usize
+    requires { ⌜ Table (now table) ⌝ }
     requires { ⌜ RowAt (now s) from count ⌝ }
     requires { ⌜ at + length (markedEach (classIs class) first further (contents (now s) from count)) ≤ length (now room) ⌝ }
     ensures { λ r. ⌜ Wrote (now (room .entry)) at (markedEach (classIs class) first further (contents (now (s .entry)) from count)) (now (room .exit)) r ⌝ }
 {
-    let bits = bare_bits(class);
     let digits = upper_hex_digits();
     let mut next = from;
     let mut left = count;
@@ -62,7 +62,7 @@ fn put_marked(
     while 0 < left {
         let span = span_at(s, next);
         let p = put_byte(room, o, mark);
-        o = put_escaped(room, p, s, span.start, span.length, class, &bits, &digits);
+        o = put_escaped(room, p, s, span.start, span.length, class, table, &digits);
         next = span.start + span.length;
         mark = further;
         left -= 1;
@@ -71,7 +71,8 @@ fn put_marked(
 }
 
 // How long a mark and the texts joined by a delimiter are.
-pub fn row_length(s: &[u8], at: usize, count: usize, class: Class) -> usize
+pub fn row_length(s: &[u8], at: usize, count: usize, class: Class, table: &[u8; 256]) -> usize
+    requires { ⌜ Table (now table) ⌝ }
     requires { ⌜ RowAt (now s) at count ⌝ }
     requires { ⌜ length (now s) ≤ limits .bytes ⌝ }
     ensures { λ r. ⌜ ((mark delimiter : ℕ) → r ≡ length (mark ∷ join delimiter (map (escape (classIs class)) (contents (now (s .entry)) at count)))) ⌝ }
@@ -79,7 +80,7 @@ pub fn row_length(s: &[u8], at: usize, count: usize, class: Class) -> usize
     if count == 0 {
         return 1;
     }
-    marked_length(s, at, count, class)
+    marked_length(s, at, count, class, table)
 }
 
 // A mark, and the texts joined by a delimiter.
@@ -92,7 +93,9 @@ pub fn put_row(
     class: Class,
     mark: u8,
     delimiter: u8,
+    table: &[u8; 256],
 ) -> usize
+    requires { ⌜ Table (now table) ⌝ }
     requires { ⌜ RowAt (now s) from count ⌝ }
     requires { ⌜ at + length (mark ∷ join delimiter (map (escape (classIs class)) (contents (now s) from count))) ≤ length (now room) ⌝ }
     ensures { λ r. ⌜ Wrote (now (room .entry)) at (mark ∷ join delimiter (map (escape (classIs class)) (contents (now (s .entry)) from count))) (now (room .exit)) r ⌝ }
@@ -100,5 +103,5 @@ pub fn put_row(
     if count == 0 {
         return put_byte(room, at, mark);
     }
-    put_marked(room, at, s, from, count, class, mark, delimiter)
+    put_marked(room, at, s, from, count, class, mark, delimiter, table)
 }

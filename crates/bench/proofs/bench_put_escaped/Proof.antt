@@ -11,8 +11,8 @@ use borrow.Author.Needs.{needs}
 use Rattle.bench.proofs.bench_put_escaped.Statement.{statement}
 use Rattle.bench.proofs.bench_put_escaped.Tie as tie
 
-escaped-length-requires : tie.Need-escaped-length-requires
-escaped-length-requires c κs = (c .before .bare-bits .ensures, (omega arith, omega arith))
+long-length-requires : tie.Need-long-length-requires
+long-length-requires c κs = (c .before .bare-table .ensures, (omega arith, omega arith))
 
 returns : tie.Need-returns
 returns c =
@@ -21,15 +21,15 @@ returns c =
     let none : ⊥ = omega (arith, escape-length (classIs (k .class-of .result)) (part src 0 (length src)), length-part src 0 (length src) (omega arith)) in
     absurd none
 
-put-escaped-requires : tie.Need-put-escaped-requires
-put-escaped-requires c κs =
+put-long-requires : tie.Need-put-long-requires
+put-long-requires c κs =
     let d = c .before .before .before in
-    ((d .before .before .before .before .bare-bits .ensures, d .upper-hex-digits .ensures), (omega arith, omega arith))
+    ((d .before .before .before .before .bare-table .ensures, d .upper-hex-digits .ensures), (omega arith, omega arith))
 
 returns-2 : tie.Need-returns-2
 returns-2 c =
     let w = c .before .before in
-    rw (take-length, w .before .before .before .before .before .before .before .before .before .class-of .ensures) at (w .put-escaped .ensures)
+    rw (take-length, w .before .before .before .before .before .before .before .before .before .class-of .ensures) at (w .put-long .ensures)
 
 pub bench-put-escaped-spec : {M : Type 1} → statement M
 bench-put-escaped-spec =
@@ -37,9 +37,9 @@ bench-put-escaped-spec =
     (tie.spec
     (λ c κs. search needs)
     (λ c κs. search needs)
-    escaped-length-requires
+    long-length-requires
     returns
     (λ c κs. search needs)
-    put-escaped-requires
+    put-long-requires
     (λ c. search needs)
     returns-2)

@@ -1,7 +1,7 @@
 -- `numeral::put_hex` meets its contract: the numeral is its digits at the scales.
 use Prim.Native.Nat.{_%_}
 use native.Mathlib.Omega.{arith}
-use Rattle.put.specs.Tables.{Digits}
+use Rattle.put.specs.Tables.{Entries}
 use Rattle.put.proofs.Wrote.{wrote-then}
 use Rattle.numeral.specs.Scales.{scaled}
 use Rattle.numeral.proofs.Scales.{hex-scaled, length-hex}
@@ -28,7 +28,7 @@ put-byte-requires c κs =
     omega (arith, length-hex (s .args .n) (s .fits .n .fits))
 
 returns : tie.Need-returns
-unfolding scaled Digits
+unfolding scaled Entries
 returns c =
     let c4 = c .before .before in
     let c3 = c4 .before .before .before .before .before in

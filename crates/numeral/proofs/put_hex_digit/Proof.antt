@@ -3,7 +3,7 @@ use Prim.Native.Nat.{_/_, _%_}
 use native.Mathlib.Omega.{arith}
 use mathlib.Core.Path.{ap}
 use lib.ListN.{length}
-use Rattle.put.specs.Tables.{Digits}
+use Rattle.put.specs.Tables.{Entries}
 use Rattle.put.proofs.Wrote.{wrote-none}
 use Rattle.numeral.proofs.Scales.{digit-none, digit-one}
 use borrow.Author.Needs.{needs}
@@ -17,7 +17,7 @@ put-byte-requires : tie.Need-put-byte-requires
 put-byte-requires c κs = omega (arith, ap length (digit-one 16 _ _ (c .before .before .if1 .left)))
 
 returns-2 : tie.Need-returns-2
-unfolding Digits
+unfolding Entries
 returns-2 c =
     let e = c .before .before .before .before .before in
     let s = e .before .before in

@@ -12,13 +12,13 @@ use Rattle.uri.proofs.has_room.Statement.{statement}
 use Rattle.uri.proofs.has_room.Tie as tie
 
 mul-if1 : tie.Need-mul-if1
-mul-if1 c = omega (arith, c .before .pre .size)
+mul-if1 c = omega (arith, c .before .pre .1 .size)
 
 add-if1 : tie.Need-add-if1
-add-if1 c = omega (arith, c .before .pre .size)
+add-if1 c = omega (arith, c .before .pre .1 .size)
 
 returns : tie.Need-returns
-returns c = sym (le-leb (length (textAt (now (c .before .before .args .s)) (foundOf (c .before .before .args .found)))) (c .before .before .args .size) (omega (arith, c .before .before .pre .most, c .if1 .taken)))
+returns c = sym (le-leb (length (textAt (now (c .before .before .args .s)) (foundOf (c .before .before .args .found)))) (c .before .before .args .size) (omega (arith, c .before .before .pre .1 .most, c .if1 .taken)))
 
 text-length-requires : tie.Need-text-length-requires
 text-length-requires c κs = c .before .before .pre

@@ -14,35 +14,35 @@ add-result c =
     let s = c .before .before .before .before .before in
     let bs = now (s .args .s) in
     let e = ap openingOf (c .before .before .opening .given .1) in
-    omega (arith, s .pre .1 .1, c .scheme-length .ensures bs (full-prints bs e (s .pre .1 .0) .0), origin-sum bs e)
+    omega (arith, s .pre .1 .1 .1, c .scheme-length .ensures bs (full-prints bs e (s .pre .1 .1 .0) .0), origin-sum bs e)
 
 host-length-requires : tie.Need-host-length-requires
 host-length-requires c κs =
     let s = c .before .before .before .before .before in
     let bs = now (s .args .s) in
     let e = ap openingOf (c .before .before .opening .given .1) in
-    (s .pre .0, (full-prints bs e (s .pre .1 .0) .1, omega (arith, s .pre .1 .1, origin-sum bs e)))
+    (s .pre .0, (s .pre .1 .0, (full-prints bs e (s .pre .1 .1 .0) .1, omega (arith, s .pre .1 .1 .1, origin-sum bs e))))
 
 add-result-2 : tie.Need-add-result-2
 add-result-2 c =
     let s = c .before .before .before .before .before .before in
     let bs = now (s .args .s) in
     let e = ap openingOf (c .before .before .before .opening .given .1) in
-    omega (arith, s .pre .1 .1, c .before .scheme-length .ensures bs (full-prints bs e (s .pre .1 .0) .0), c .host-length .ensures, origin-sum bs e)
+    omega (arith, s .pre .1 .1 .1, c .before .scheme-length .ensures bs (full-prints bs e (s .pre .1 .1 .0) .0), c .host-length .ensures, origin-sum bs e)
 
 port-length-requires : tie.Need-port-length-requires
 port-length-requires c κs =
     let s = c .before .before .before .before .before .before in
     let bs = now (s .args .s) in
     let e = ap openingOf (c .before .before .before .opening .given .1) in
-    (full-prints bs e (s .pre .1 .0) .2, omega (arith, s .pre .1 .1, origin-sum bs e))
+    (full-prints bs e (s .pre .1 .1 .0) .2, omega (arith, s .pre .1 .1 .1, origin-sum bs e))
 
 add-result-3 : tie.Need-add-result-3
 add-result-3 c =
     let s = c .before .before .before .before .before .before .before in
     let bs = now (s .args .s) in
     let e = ap openingOf (c .before .before .before .before .opening .given .1) in
-    omega (arith, s .pre .1 .1, c .before .before .scheme-length .ensures bs (full-prints bs e (s .pre .1 .0) .0), c .before .host-length .ensures, c .port-length .ensures, origin-sum bs e)
+    omega (arith, s .pre .1 .1 .1, c .before .before .scheme-length .ensures bs (full-prints bs e (s .pre .1 .1 .0) .0), c .before .host-length .ensures, c .port-length .ensures, origin-sum bs e)
 
 returns : tie.Need-returns
 returns c = ap length (origin-discard _ (ap openingOf (c .enum-told .given .1)))
@@ -55,7 +55,7 @@ returns-3 c =
     let s = c .before .before .before .before .before .before .before in
     let bs = now (s .args .s) in
     let e = ap openingOf (c .before .before .before .before .opening .given .1) in
-    omega (arith, c .before .before .scheme-length .ensures bs (full-prints bs e (s .pre .1 .0) .0), c .before .host-length .ensures, c .port-length .ensures, origin-sum bs e)
+    omega (arith, c .before .before .scheme-length .ensures bs (full-prints bs e (s .pre .1 .1 .0) .0), c .before .host-length .ensures, c .port-length .ensures, origin-sum bs e)
 
 pub origin-length-spec : {M : Type 1} → statement M
 origin-length-spec =

@@ -13,7 +13,9 @@ has-room-requires : tie.Need-has-room-requires
 has-room-requires c κs = c .before .before .pre
 
 put-text-requires : tie.Need-put-text-requires
-put-text-requires c κs = (c .before .before .before .before .before .pre, leb-true _ _ (sym (c .before .before .has-room .ensures) ∙ c .before .if1 .taken))
+put-text-requires c κs =
+    let s = c .before .before .before .before .before in
+    (s .pre .0, (s .pre .1, leb-true _ _ (sym (c .before .before .has-room .ensures) ∙ c .before .if1 .taken)))
 
 returns : tie.Need-returns
 returns c = let u = right-done (textAt (now (c .before .before .before .before .before .before .before .before .args .s)) (foundOf (c .before .before .before .before .before .before .before .before .args .found))) refl (leb-true _ _ (sym (c .before .before .before .before .before .has-room .ensures) ∙ c .before .before .before .before .if1 .taken)) (c .before .before .put-text .ensures) in (u .answered, u .holds)

@@ -14,24 +14,24 @@ put-scheme-requires c κs =
     let s = c .before .before .before .before .before .before in
     let bs = now (s .args .s) in
     let e = ap openingOf (c .before .before .opening .given .1) in
-    (full-prints bs e (s .pre .0) .0, omega (arith, s .pre .1, origin-sum bs e))
+    (full-prints bs e (s .pre .1 .0) .0, omega (arith, s .pre .1 .1, origin-sum bs e))
 
 put-bytes-requires : tie.Need-put-bytes-requires
-put-bytes-requires c κs = omega (arith, c .before .before .before .before .before .before .before .before .before .before .before .pre .1, origin-sum (now (c .before .before .before .before .before .before .before .before .before .before .before .args .s)) (ap openingOf (c .before .before .before .before .before .before .before .opening .given .1)), c .before .before .before .before .put-scheme .ensures .place, wrote-length (c .before .before .before .before .put-scheme .ensures))
+put-bytes-requires c κs = omega (arith, c .before .before .before .before .before .before .before .before .before .before .before .pre .1 .1, origin-sum (now (c .before .before .before .before .before .before .before .before .before .before .before .args .s)) (ap openingOf (c .before .before .before .before .before .before .before .opening .given .1)), c .before .before .before .before .put-scheme .ensures .place, wrote-length (c .before .before .before .before .put-scheme .ensures))
 
 put-host-requires : tie.Need-put-host-requires
 put-host-requires c κs =
     let s = c .before .before .before .before .before .before .before .before .before .before .before .before .before .before .before in
     let bs = now (s .args .s) in
     let e = ap openingOf (c .before .before .before .before .before .before .before .before .before .before .before .opening .given .1) in
-    (full-prints bs e (s .pre .0) .1, omega (arith, s .pre .1, origin-sum bs e, c .before .before .before .before .before .before .before .before .put-scheme .ensures .place, wrote-length (c .before .before .before .before .before .before .before .before .put-scheme .ensures), c .before .before .before .put-bytes .ensures .place, wrote-length (c .before .before .before .put-bytes .ensures)))
+    (s .pre .0, (full-prints bs e (s .pre .1 .0) .1, omega (arith, s .pre .1 .1, origin-sum bs e, c .before .before .before .before .before .before .before .before .put-scheme .ensures .place, wrote-length (c .before .before .before .before .before .before .before .before .put-scheme .ensures), c .before .before .before .put-bytes .ensures .place, wrote-length (c .before .before .before .put-bytes .ensures))))
 
 put-port-requires : tie.Need-put-port-requires
 put-port-requires c κs =
     let s = c .before .before .before .before .before .before .before .before .before .before .before .before .before .before .before .before .before .before .before in
     let bs = now (s .args .s) in
     let e = ap openingOf (c .before .before .before .before .before .before .before .before .before .before .before .before .before .before .before .opening .given .1) in
-    (full-prints bs e (s .pre .0) .2, omega (arith, s .pre .1, origin-sum bs e, c .before .before .before .before .before .before .before .before .before .before .before .before .put-scheme .ensures .place, wrote-length (c .before .before .before .before .before .before .before .before .before .before .before .before .put-scheme .ensures), c .before .before .before .before .before .before .before .put-bytes .ensures .place, wrote-length (c .before .before .before .before .before .before .before .put-bytes .ensures), c .before .before .before .put-host .ensures .place, wrote-length (c .before .before .before .put-host .ensures)))
+    (full-prints bs e (s .pre .1 .0) .2, omega (arith, s .pre .1 .1, origin-sum bs e, c .before .before .before .before .before .before .before .before .before .before .before .before .put-scheme .ensures .place, wrote-length (c .before .before .before .before .before .before .before .before .before .before .before .before .put-scheme .ensures), c .before .before .before .before .before .before .before .put-bytes .ensures .place, wrote-length (c .before .before .before .before .before .before .before .put-bytes .ensures), c .before .before .before .put-host .ensures .place, wrote-length (c .before .before .before .put-host .ensures)))
 
 returns : tie.Need-returns
 returns c = wrote-as (origin-discard _ (ap openingOf (c .enum-told .given .1))) wrote-none

@@ -7,7 +7,7 @@ use lib.ListN.{length, length-set}
 use Rattle.rules.specs.Bytes.{percent}
 use Rattle.rules.specs.Text.{hexDigit, escapeByte}
 use Rattle.put.proofs.Wrote.{wrote-one, wrote-three}
-use Rattle.put.specs.Tables.{Digits}
+use Rattle.put.specs.Tables.{Entries}
 use Rattle.uri_escape.specs.Escape.{classIs}
 use Rattle.uri_escape.proofs.Escape.{byte-bare, byte-hex}
 use borrow.Author.Needs.{needs}
@@ -36,7 +36,7 @@ slice-write-room-4 : tie.Need-slice-write-room-4
 slice-write-room-4 c = simp length-set (omega (arith, ap length (hex (c .before .before))))
 
 returns-2 : tie.Need-returns-2
-unfolding Digits
+unfolding Entries
 returns-2 c =
     let s = c .before .before .before .before .before in
     rw (hex (c .before .before), ← s .pre .0 .1 (s .args .b / 16) (omega (arith, s .fits .b)), ← s .pre .0 .1 (s .args .b % 16) (omega arith)) wrote-three

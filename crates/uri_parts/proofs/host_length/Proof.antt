@@ -11,13 +11,13 @@ use Rattle.uri_parts.proofs.host_length.Statement.{statement}
 use Rattle.uri_parts.proofs.host_length.Tie as tie
 
 address-length-requires : tie.Need-address-length-requires
-address-length-requires c κs = let e = ap hostOf (c .before .host .given .1) in (rw e at (c .before .before .before .before .pre .1 .0), omega (arith, c .before .before .before .before .pre .1 .1, ap length (host-address (now (c .before .before .before .before .args .s)) e)))
+address-length-requires c κs = let e = ap hostOf (c .before .host .given .1) in (rw e at (c .before .before .before .before .pre .1 .1 .0), omega (arith, c .before .before .before .before .pre .1 .1 .1, ap length (host-address (now (c .before .before .before .before .args .s)) e)))
 
 add-result : tie.Need-add-result
-add-result c = omega (arith, c .before .before .before .before .before .pre .1 .1, c .address-length .ensures, ap length (host-address (now (c .before .before .before .before .before .args .s)) (ap hostOf (c .before .before .host .given .1))))
+add-result c = omega (arith, c .before .before .before .before .before .pre .1 .1 .1, c .address-length .ensures, ap length (host-address (now (c .before .before .before .before .before .args .s)) (ap hostOf (c .before .before .host .given .1))))
 
 row-length-requires : tie.Need-row-length-requires
-row-length-requires c κs = (rw (ap hostOf (c .before .host2 .given .1)) at (c .before .before .before .before .pre .1 .0), c .before .before .before .before .pre .0)
+row-length-requires c κs = (c .before .before .before .before .pre .0, (rw (ap hostOf (c .before .host2 .given .1)) at (c .before .before .before .before .pre .1 .1 .0), c .before .before .before .before .pre .1 .0))
 
 returns : tie.Need-returns
 returns c = omega (arith, c .address-length .ensures, ap length (host-address (now (c .before .before .before .before .before .args .s)) (ap hostOf (c .before .before .host .given .1))))

@@ -11,18 +11,27 @@ use Rattle.uri_parts.proofs.put_fragment.Statement.{statement}
 use Rattle.uri_parts.proofs.put_fragment.Tie as tie
 
 put-byte-requires : tie.Need-put-byte-requires
-put-byte-requires c κs = omega (arith, c .before .before .before .before .before .before .before .before .pre .1, ap length (fragment-set (now (c .before .before .before .before .before .before .before .before .args .s)) (ap slotOf (c .before .before .before .before .fragment .given .1))))
+put-byte-requires c κs =
+    let s = c .before .before .before .before .before .before .before in
+    omega (arith, s .pre .1 .1, ap length (fragment-set (now (s .args .s)) (ap slotOf (c .before .before .before .fragment .given .1))))
 
-put-escaped-requires : tie.Need-put-escaped-requires
-put-escaped-requires c κs =
-    let e = ap slotOf (c .before .before .before .before .before .before .before .before .before .before .fragment .given .1) in
-    ((c .before .before .before .before .before .before .before .before .bare-bits .ensures, c .before .before .before .before .before .before .before .upper-hex-digits .ensures), (rw e at (c .before .before .before .before .before .before .before .before .before .before .before .before .before .before .pre .0), omega (arith, c .before .before .before .before .before .before .before .before .before .before .before .before .before .before .pre .1, c .before .before .before .before .before .put-byte .ensures .place, wrote-length (c .before .before .before .before .before .put-byte .ensures), ap length (fragment-set (now (c .before .before .before .before .before .before .before .before .before .before .before .before .before .before .args .s)) e))))
+put-long-requires : tie.Need-put-long-requires
+put-long-requires c κs =
+    let p = c .before .before .before .before in
+    let d = p .before .before in
+    let s = d .before .before .before .before .before .before in
+    let e = ap slotOf (d .before .before .fragment .given .1) in (
+      (s .pre .0, d .upper-hex-digits .ensures),
+      (rw e at (s .pre .1 .0), omega (arith, s .pre .1 .1, p .put-byte .ensures .place, wrote-length (p .put-byte .ensures), ap length (fragment-set (now (s .args .s)) e))),
+    )
 
 returns : tie.Need-returns
 returns c = wrote-as (fragment-unset _ (ap slotOf (c .enum-told .given .1))) wrote-none
 
 returns-2 : tie.Need-returns-2
-returns-2 c = wrote-as (fragment-set _ (ap slotOf (c .before .before .before .before .before .before .before .before .before .before .before .before .before .fragment .given .1))) (wrote-then (c .before .before .before .before .before .before .before .before .put-byte .ensures) (c .before .before .put-escaped .ensures))
+returns-2 c =
+    let p = c .before .before .before .before .before .before .before in
+    wrote-as (fragment-set _ (ap slotOf (p .before .before .before .before .fragment .given .1))) (wrote-then (p .put-byte .ensures) (c .before .before .put-long .ensures))
 
 pub put-fragment-spec : {M : Type 1} → statement M
 put-fragment-spec =
@@ -31,9 +40,8 @@ put-fragment-spec =
     (λ c. search needs)
     (λ c. search needs)
     (λ c κs. search needs)
-    (λ c κs. search needs)
     put-byte-requires
-    put-escaped-requires
+    put-long-requires
     returns
     (λ c. search needs)
     returns-2)

@@ -11,10 +11,10 @@ use Rattle.uri_parts.proofs.put_path.Statement.{statement}
 use Rattle.uri_parts.proofs.put_path.Tie as tie
 
 put-byte-requires : tie.Need-put-byte-requires
-put-byte-requires c κs = omega (arith, c .before .before .before .before .before .pre .1, ap length (path-unset (now (c .before .before .before .before .before .args .s)) (ap slotOf (c .before .enum-told .given .1))))
+put-byte-requires c κs = omega (arith, c .before .before .before .before .before .pre .1 .1, ap length (path-unset (now (c .before .before .before .before .before .args .s)) (ap slotOf (c .before .enum-told .given .1))))
 
 put-row-requires : tie.Need-put-row-requires
-put-row-requires c κs = let e = ap slotOf (c .before .before .path .given .1) in (rw e at (c .before .before .before .before .before .before .pre .0), omega (arith, c .before .before .before .before .before .before .pre .1, ap length (path-set (now (c .before .before .before .before .before .before .args .s)) e)))
+put-row-requires c κs = let e = ap slotOf (c .before .before .path .given .1) in (c .before .before .before .before .before .before .pre .0, (rw e at (c .before .before .before .before .before .before .pre .1 .0), omega (arith, c .before .before .before .before .before .before .pre .1 .1, ap length (path-set (now (c .before .before .before .before .before .before .args .s)) e))))
 
 returns : tie.Need-returns
 returns c = wrote-as (path-unset _ (ap slotOf (c .before .before .before .before .enum-told .given .1))) (c .before .before .put-byte .ensures)

@@ -11,7 +11,7 @@ use Rattle.uri_parts.proofs.put_query.Statement.{statement}
 use Rattle.uri_parts.proofs.put_query.Tie as tie
 
 put-row-requires : tie.Need-put-row-requires
-put-row-requires c κs = let e = ap slotOf (c .before .before .query .given .1) in (rw e at (c .before .before .before .before .before .before .pre .0), omega (arith, c .before .before .before .before .before .before .pre .1, ap length (query-set (now (c .before .before .before .before .before .before .args .s)) e)))
+put-row-requires c κs = let e = ap slotOf (c .before .before .query .given .1) in (c .before .before .before .before .before .before .pre .0, (rw e at (c .before .before .before .before .before .before .pre .1 .0), omega (arith, c .before .before .before .before .before .before .pre .1 .1, ap length (query-set (now (c .before .before .before .before .before .before .args .s)) e))))
 
 returns : tie.Need-returns
 returns c = wrote-as (query-unset _ (ap slotOf (c .enum-told .given .1))) wrote-none

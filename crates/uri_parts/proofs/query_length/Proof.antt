@@ -10,7 +10,7 @@ use Rattle.uri_parts.proofs.query_length.Statement.{statement}
 use Rattle.uri_parts.proofs.query_length.Tie as tie
 
 row-length-requires : tie.Need-row-length-requires
-row-length-requires c κs = (rw (ap slotOf (c .before .query .given .1)) at (c .before .before .before .before .pre .1), c .before .before .before .before .pre .0)
+row-length-requires c κs = (c .before .before .before .before .pre .0, (rw (ap slotOf (c .before .query .given .1)) at (c .before .before .before .before .pre .1 .1), c .before .before .before .before .pre .1 .0))
 
 returns : tie.Need-returns
 returns c = ap length (query-unset (now (c .before .before .before .args .s)) (ap slotOf (c .enum-told .given .1)))

@@ -20,7 +20,7 @@ put-marked-requires c κs =
     let i = c .before in
     let s = i .before .before .before in
     let a = s .args in
-    (s .pre .0, rw (row-some (classIs (a .class)) (a .mark) (a .delimiter) (now (a .s)) (a .from) (a .count) (i .if1 .left)) (s .pre .1))
+    (s .pre .0, (s .pre .1 .0, rw (row-some (classIs (a .class)) (a .mark) (a .delimiter) (now (a .s)) (a .from) (a .count) (i .if1 .left)) (s .pre .1 .1)))
 
 returns-2 : tie.Need-returns-2
 returns-2 c =

@@ -1,4 +1,4 @@
--- `uri_escape::put_escaped` meets its contract: what is left to write is what is left of the part, escaped.
+-- `uri_escape::put_by_bytes` meets its contract: what is left to write is what is left of the part, escaped.
 use Prim.Native.Nat.{_+_, _-_, _≤_}
 use native.Mathlib.Omega.{arith}
 use lib.ListN.{getD}
@@ -8,15 +8,15 @@ use Rattle.rules.specs.Text.{escape, escapeByte}
 use Rattle.put.proofs.Wrote.{Left, Next, left-whole, next, next-room, next-wrote, last}
 use Rattle.uri_escape.specs.Escape.{classIs}
 use Rattle.uri_escape.proofs.Escape.{escape-none, escape-step}
-use Rattle.uri_escape.proofs.put_escaped.Statement.{statement}
-use Rattle.uri_escape.proofs.put_escaped.Tie as tie
+use Rattle.uri_escape.proofs.put_by_bytes.Statement.{statement}
+use Rattle.uri_escape.proofs.put_by_bytes.Tie as tie
 
 abbrev Inv-loop : tie.InvT-loop
-Inv-loop room₀ at src from n class bits digits end i₀ o₀ room i o =
+Inv-loop room₀ at src from n class table digits end i₀ o₀ room i o =
     (i ≤ end) × Left room o (escape (classIs class) (part src i (end - i))) room₀ at (escape (classIs class) (part src from n))
 
 abbrev μ-loop : tie.MeasureT-loop
-μ-loop room₀ at src from n class bits digits end i₀ o₀ room i o = end - i
+μ-loop room₀ at src from n class table digits end i₀ o₀ room i o = end - i
 
 add-end : tie.Need-add-end Inv-loop μ-loop
 add-end c = omega arith
@@ -65,8 +65,8 @@ returns c =
     let k = classIs (a .class) in
     last (escape k) (escapeByte k) (escape-step k) (escape-none k) (now (a .src)) (l .loop .i) (a .from + a .n) (c .loop-test .left) (l .loop .inv .1)
 
-pub put-escaped-spec : {M : Type 1} → statement M
-put-escaped-spec =
+pub put-by-bytes-spec : {M : Type 1} → statement M
+put-by-bytes-spec =
     tie.close
     (tie.spec
     Inv-loop

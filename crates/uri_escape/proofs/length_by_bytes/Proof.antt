@@ -1,4 +1,4 @@
--- `uri_escape::escaped_length` meets its contract: what is left to count is what is left of the part.
+-- `uri_escape::length_by_bytes` meets its contract: what is left to count is what is left of the part.
 use Prim.Native.Nat.{_+_, _-_, _≤_}
 use native.Mathlib.Omega.{arith}
 use lib.ListN.{length}
@@ -10,15 +10,15 @@ use Rattle.rules.proofs.Escapes.{escape-length}
 use Rattle.put.proofs.Wrote.{Count, count-whole, count-next, counted, count-last}
 use Rattle.uri_escape.specs.Escape.{classIs}
 use Rattle.uri_escape.proofs.Escape.{escape-none, escape-step}
-use Rattle.uri_escape.proofs.escaped_length.Statement.{statement}
-use Rattle.uri_escape.proofs.escaped_length.Tie as tie
+use Rattle.uri_escape.proofs.length_by_bytes.Statement.{statement}
+use Rattle.uri_escape.proofs.length_by_bytes.Tie as tie
 
 abbrev Inv-loop : tie.InvT-loop
-Inv-loop src from n class bits end total₀ i₀ total i =
+Inv-loop src from n class table end total₀ i₀ total i =
     (i ≤ end) × Count total (escape (classIs class) (part src i (end - i))) (length (escape (classIs class) (part src from n)))
 
 abbrev μ-loop : tie.MeasureT-loop
-μ-loop src from n class bits end total₀ i₀ total i = end - i
+μ-loop src from n class table end total₀ i₀ total i = end - i
 
 add-end : tie.Need-add-end Inv-loop μ-loop
 add-end c = omega arith
@@ -62,8 +62,8 @@ returns c =
     let k = classIs (a .class) in
     count-last (escape k) (escapeByte k) (escape-step k) (escape-none k) (now (a .src)) (l .loop .i) (a .from + a .n) (c .loop-test .left) (l .loop .inv .1)
 
-pub escaped-length-spec : {M : Type 1} → statement M
-escaped-length-spec =
+pub length-by-bytes-spec : {M : Type 1} → statement M
+length-by-bytes-spec =
     tie.close
     (tie.spec
     Inv-loop
