@@ -10,7 +10,7 @@ ghost use Rattle.rules.specs.Head.{Text, is};
 ghost use Rattle.rules.specs.Text.{escape};
 ghost use Rattle.rules.specs.Address.{ipv6Text};
 ghost use Rattle.put.specs.Wrote.{Wrote};
-ghost use Rattle.uri_escape.specs.Escape.{classIs};
+ghost use Rattle.uri_escape.specs.Escape.{classIs, Table};
 ghost use Rattle.bench.specs.Answers.{classOf, textOrNumber, afterContent, afterItem, items, answer, stepIs};
 use numbers::CUT;
 use numbers::FORM;
@@ -154,19 +154,24 @@ fn class_of(k: u8) -> uri_escape::Class
     }
 }
 
-// All of src escaped into a room of three times its length: measured, compared with the room, and written.
+// All of src escaped into a room of three times its length: measured, compared with the room, and written. The table is lent, as to the texts of a link.
 #[no_mangle]
-pub extern "C" fn bench_put_escaped(room: &mut [u8], src: &[u8], class: u8) -> usize
+pub extern "C" fn bench_put_escaped(
+    room: &mut [u8],
+    src: &[u8],
+    class: u8,
+    table: &[u8; 256],
+) -> usize
+    requires { ⌜ Table (now table) ⌝ }
     requires { ⌜ 3 * length (now src) ≤ length (now room) ⌝ }
     ensures { λ r. ⌜ Wrote (now (room .entry)) 0 (escape (classOf class) (now (src .entry))) (now (room .exit)) r ⌝ }
 {
     let k = class_of(class);
-    let table = uri_escape::bare_table();
-    if room.len() < uri_escape::long_length(src, 0, src.len(), k, &table) {
+    if room.len() < uri_escape::escaped_length(src, 0, src.len(), k, table) {
         return 0;
     }
     let digits = uri_escape::upper_hex_digits();
-    uri_escape::put_long(room, 0, src, 0, src.len(), k, &table, &digits)
+    uri_escape::put_escaped(room, 0, src, 0, src.len(), k, table, &digits)
 }
 
 // The IPv6 address in the first 16 bytes, into a room of 49.

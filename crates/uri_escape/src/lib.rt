@@ -210,7 +210,7 @@ fn stand_bare(src: &[u8], from: usize, n: usize, class: Class, table: &[u8; 256]
     true
 }
 
-// How long the n bytes of src from a position on are, escaped.
+// How long the n bytes of src from a position on are, escaped: as long as they are where all of them stand bare.
 pub fn long_length(src: &[u8], from: usize, n: usize, class: Class, table: &[u8; 256]) -> usize
     requires { ⌜ Table (now table) ⌝ }
     requires { ⌜ (from + n ≤ length (now src)) × (3 * n < 2 ^ 64) ⌝ }
@@ -250,13 +250,16 @@ pub fn put_long(
 
 // ---- the texts of a row: most are short, and each of those is one loop with no call. One caller each, so that they become part of its loop.
 
+// From this length on a text of a row is tested as a whole first.
+const LONG: usize = 16;
+
 // How long the n bytes of src from a position on are, escaped.
 pub fn escaped_length(src: &[u8], from: usize, n: usize, class: Class, table: &[u8; 256]) -> usize
     requires { ⌜ Table (now table) ⌝ }
     requires { ⌜ (from + n ≤ length (now src)) × (3 * n < 2 ^ 64) ⌝ }
     ensures { λ r. ⌜ r ≡ length (escape (classIs class) (part (now (src .entry)) from n)) ⌝ }
 {
-    if n < 16 {
+    if n < LONG {
         return length_by_bytes(src, from, n, class, table);
     }
     long_length(src, from, n, class, table)
@@ -278,7 +281,7 @@ pub fn put_escaped(
     requires { ⌜ at + length (escape (classIs class) (part (now src) from n)) ≤ length (now room) ⌝ }
     ensures { λ r. ⌜ Wrote (now (room .entry)) at (escape (classIs class) (part (now (src .entry)) from n)) (now (room .exit)) r ⌝ }
 {
-    if n < 16 {
+    if n < LONG {
         return put_by_bytes(room, at, src, from, n, class, table, digits);
     }
     put_long(room, at, src, from, n, class, table, digits)

@@ -218,7 +218,7 @@ pub fn fragment_length(s: &[u8], fragment: Slot, table: &[u8; 256]) -> usize
 {
     match fragment {
         Slot::Unset => 0,
-        Slot::Set { at, count: n } => { 1 + long_length(s, at, n, Class::Fragment, table) }
+        Slot::Set { at, count: n } => 1 + long_length(s, at, n, Class::Fragment, table),
     }
 }
 

@@ -11,35 +11,34 @@ use borrow.Author.Needs.{needs}
 use Rattle.bench.proofs.bench_put_escaped.Statement.{statement}
 use Rattle.bench.proofs.bench_put_escaped.Tie as tie
 
-long-length-requires : tie.Need-long-length-requires
-long-length-requires c κs = (c .before .bare-table .ensures, (omega arith, omega arith))
+escaped-length-requires : tie.Need-escaped-length-requires
+escaped-length-requires c κs = (c .before .before .before .pre .0, (omega arith, omega arith))
 
 returns : tie.Need-returns
 returns c =
-    let k = c .before .before .before .before in
+    let k = c .before .before in
     let src = now (k .before .before .before .args .src) in
     let none : ⊥ = omega (arith, escape-length (classIs (k .class-of .result)) (part src 0 (length src)), length-part src 0 (length src) (omega arith)) in
     absurd none
 
-put-long-requires : tie.Need-put-long-requires
-put-long-requires c κs =
-    let d = c .before .before .before in
-    ((d .before .before .before .before .bare-table .ensures, d .upper-hex-digits .ensures), (omega arith, omega arith))
+put-escaped-requires : tie.Need-put-escaped-requires
+put-escaped-requires c κs =
+    let d = c .before .before in
+    ((d .before .before .before .before .before .before .pre .0, d .upper-hex-digits .ensures), (omega arith, omega arith))
 
 returns-2 : tie.Need-returns-2
 returns-2 c =
     let w = c .before .before in
-    rw (take-length, w .before .before .before .before .before .before .before .before .before .class-of .ensures) at (w .put-long .ensures)
+    rw (take-length, w .before .before .before .before .before .before .class-of .ensures) at (w .put-escaped .ensures)
 
 pub bench-put-escaped-spec : {M : Type 1} → statement M
 bench-put-escaped-spec =
     tie.close
     (tie.spec
     (λ c κs. search needs)
-    (λ c κs. search needs)
-    long-length-requires
+    escaped-length-requires
     returns
     (λ c κs. search needs)
-    put-long-requires
+    put-escaped-requires
     (λ c. search needs)
     returns-2)
