@@ -3,14 +3,13 @@ use Prim.Native.Nat.{ℕ, _/_, _%_, _*_, _+_, _-_, _^_, _<_, _≤_}
 use native.Mathlib.Omega.{arith}
 use mathlib.Core.Path.{_≡_, refl, sym, _∙_}
 use mathlib.Core.Bool.{Bool, true, false, not, Bool·beq, _&&_, false≢true}
-use mathlib.Core.List.{[], _∷_, _++_}
 use lib.Dec.{eqb}
 use lib.Bits.{bitAnd, and-high, and-shr, and-mod}
 use lib.ListN.{length, getD}
 use Rattle.rules.specs.Bytes.{Bytes, part, all}
 use Rattle.rules.specs.Text.{Class, Label, Segment, Parameter, Fragment, bare}
 use Rattle.rules.proofs.Compute.{computed}
-use Rattle.rules.proofs.Tools.{allBelow, below, and-left, and-right, and-both, part-step, part-end, by-test}
+use Rattle.rules.proofs.Tools.{allBelow, below, All, each-append, each-left, each-right, each-all, all-each, part-step, part-end, by-test}
 use Rattle.put.proofs.Wrote.{part-add}
 use Rattle.uri_escape.specs.Escape.{bitOf, names, entry}
 
@@ -49,6 +48,7 @@ at-bit Fragment e = and-high e 1 3
 
 -- ---- what entries have in common
 
+-- one bit of weight w: of two numbers and-ed it is set where it is in both, computed
 abbrev Both : ℕ → Type 0
 Both w = allBelow 2 (λ x. allBelow 2 (λ y. Bool·beq (not (eqb (bitAnd x y * w) 0)) (not (eqb (x * w) 0) && not (eqb (y * w) 0)))) ≡ true
 
@@ -99,29 +99,26 @@ module _ (k : Class) (s : Bytes) (i end e : ℕ) {r : Bool} where
 
 -- ---- the bytes of a text, eight at a time
 
-module _ (p : ℕ → Bool) (s : Bytes) (from : ℕ) where
-  all-append : (xs ys : Bytes) → all p (xs ++ ys) ≡ true → (all p xs ≡ true) × (all p ys ≡ true)
-  unfolding all
-  all-append [] ys e = (refl, e)
-  all-append (x ∷ xs) ys e = let q = all-append xs ys (and-right (p x) _ e) in (and-both (p x) _ (and-left (p x) _ e) (q .0), q .1)
+module _ (p : ℕ → Bool) (s : Bytes) where
+  -- what holds of a part holds of its first j bytes and of the m after them
+  parts : (from j m : ℕ) → All p (part s from (j + m)) → All p (part s from j) × All p (part s (from + j) m)
+  parts from j m h =
+      let e = rw (part-add s from j m) at h in
+      (each-left (λ (c : ℕ). p c ≡ true) (part s from j) (part s (from + j) m) e, each-right (λ (c : ℕ). p c ≡ true) (part s from j) (part s (from + j) m) e)
 
-  append-all : (xs ys : Bytes) → all p xs ≡ true → all p ys ≡ true → all p (xs ++ ys) ≡ true
-  unfolding all
-  append-all [] ys e f = f
-  append-all (x ∷ xs) ys e f = and-both (p x) _ (and-left (p x) _ e) (append-all xs ys (and-right (p x) _ e) f)
-
-  -- the first j and the m after them, where the first k hold and k is not less than j
-  pub all-next : (j k m : ℕ) → j ≤ k → all p (part s from k) ≡ true → all p (part s (from + j) m) ≡ true → all p (part s from (j + m)) ≡ true
-  all-next j k m h e f =
+  -- the first j bytes and the m after them, where the first k hold and k is not less than j
+  pub all-next : (from j k m : ℕ) → j ≤ k → all p (part s from k) ≡ true → all p (part s (from + j) m) ≡ true → all p (part s from (j + m)) ≡ true
+  all-next from j k m h e f =
       let whole : k ≡ j + (k - j) = omega arith in
-      rw (part-add s from j m) (append-all (part s from j) (part s (from + j) m) (all-append (part s from j) (part s (from + j) (k - j)) (rw (whole, part-add s from j (k - j)) at e) .0) f)
+      let first = parts from j (k - j) (rw whole at (each-all p (part s from k) e)) .0 in
+      all-each p (part s from (j + m)) (rw (part-add s from j m) (each-append (λ (c : ℕ). p c ≡ true) (part s from j) (part s (from + j) m) first (each-all p (part s (from + j) m) f)))
 
-  -- a part of what holds holds
-  all-inside : (j m n : ℕ) → j + m ≤ n → all p (part s from n) ≡ true → all p (part s (from + j) m) ≡ true
-  all-inside j m n h e =
+  -- m bytes inside of n
+  inside : (from j m n : ℕ) → j + m ≤ n → all p (part s from n) ≡ true → all p (part s (from + j) m) ≡ true
+  inside from j m n h e =
       let whole : n ≡ j + (m + (n - (j + m))) = omega arith in
-      let tail = all-append (part s from j) (part s (from + j) (m + (n - (j + m)))) (rw (whole, part-add s from j (m + (n - (j + m)))) at e) .1 in
-      all-append (part s (from + j) m) (part s (from + j + m) (n - (j + m))) (rw (part-add s (from + j) m (n - (j + m))) at tail) .0
+      let rest = parts from j (m + (n - (j + m))) (rw whole at (each-all p (part s from n) e)) .1 in
+      all-each p (part s (from + j) m) (parts (from + j) m (n - (j + m)) rest .0)
 
-  pub all-not : (j m n : ℕ) → j + m ≤ n → all p (part s (from + j) m) ≡ false → all p (part s from n) ≡ false
-  all-not j m n h e = by-test (λ t. t ≡ false) (all p (part s from n)) (λ t. sym (all-inside j m n h t) ∙ e) (λ t. refl)
+  pub all-not : (from j m n : ℕ) → j + m ≤ n → all p (part s (from + j) m) ≡ false → all p (part s from n) ≡ false
+  all-not from j m n h e = by-test (λ t. t ≡ false) (all p (part s from n)) (λ t. sym (inside from j m n h t) ∙ e) (λ t. refl)
