@@ -246,7 +246,7 @@ pub fn mapped(n: usize) -> Vec<Vec<u8>> {
         .collect()
 }
 
-// So many absolute links with an IPv4 address and a path of so many segments.
+// So many absolute links with an IPv4 address and a path of so many segments, of 1 to 15 bytes each.
 pub fn segmented(n: usize, segments: usize) -> Vec<Vec<u8>> {
     let mut random = Random::new();
     (0..n)
@@ -269,8 +269,8 @@ pub fn named(n: usize, labels: usize) -> Vec<Vec<u8>> {
 }
 
 // The lengths and the numbers of segments that are measured.
-pub const SIZES: [usize; 8] = [8, 16, 32, 64, 128, 256, 512, 1024];
-pub const SEGMENTS: [usize; 7] = [0, 1, 2, 4, 8, 16, 32];
+pub const SIZES: [usize; 10] = [8, 16, 32, 64, 128, 256, 512, 1024, 2048, 4096];
+pub const SEGMENTS: [usize; 10] = [0, 1, 2, 4, 8, 16, 32, 64, 128, 160];
 
 // An absolute link of at most so many bytes, and few less: no path at 8 bytes, else one of segments of 7 bytes, or of 32 longer ones.
 pub fn sized(size: usize) -> Vec<u8> {

@@ -1,4 +1,5 @@
 // Measures the proved functions against plain Rust, after a comparison of their answers. Arguments: the names of the parts to measure (none: all).
+use compare::reader::{Span, MAX_INPUT, MAX_TEXTS};
 use compare::refusal::Refusal;
 use std::hint::black_box;
 use std::time::Instant;
@@ -43,8 +44,14 @@ impl Random {
 
 // The room that the writing calls are lent.
 pub fn room() -> &'static mut [u8] {
-    static mut ROOM: [u8; 1024] = [0; 1024];
+    static mut ROOM: [u8; MAX_INPUT] = [0; MAX_INPUT];
     unsafe { (&raw mut ROOM).as_mut().unwrap() }
+}
+
+// The array that the reading calls are lent for the starts and lengths of texts.
+pub fn spans() -> &'static mut [Span; MAX_TEXTS] {
+    static mut SPANS: [Span; MAX_TEXTS] = [Span { start: 0, length: 0 }; MAX_TEXTS];
+    unsafe { (&raw mut SPANS).as_mut().unwrap() }
 }
 
 // An answer as one number: 256 times the length written; or a refusal's number and 256 times its place.

@@ -1,6 +1,7 @@
 // URI texts: of links, and of references resolved against a base.
 use crate::links::{SEGMENTS, SIZES};
 use crate::{agree, compare, links, packed, resolve, room, Call};
+use compare::reader::MAX_INPUT;
 use compare::uri_text::{longest, uri_text};
 
 extern "C" {
@@ -8,7 +9,7 @@ extern "C" {
 }
 
 // The length of a room that is long enough for every link.
-const ENOUGH: usize = longest(1024);
+const ENOUGH: usize = longest(MAX_INPUT);
 
 // The room for the text.
 fn text_room() -> &'static mut [u8; ENOUGH] {
@@ -104,7 +105,7 @@ pub fn measure() {
     println!("print: numbers, lengths and rooms agree");
     println!("resolved and printed");
     compare("mixed pairs", &[10_000], links::pairs, &BOTH);
-    println!("printed, in a room of 3085 bytes");
+    println!("printed, in a room of {ENOUGH} bytes");
     measure_in(roomy);
     println!("printed, in a room as long as the text");
     measure_in(exact);

@@ -1,29 +1,29 @@
-// Reading links: the refusal, or the components.
-use crate::{agree, compare, links, packed, Call};
+// Reading links: the refusal, or the components, with the spans of the texts in an array that is lent.
+use crate::{agree, compare, links, packed, spans, Call};
 use compare::generate::Generator;
-use compare::reader;
+use compare::reader::{self, Span};
 
 extern "C" {
-    fn bench_read(s: *const u8, length: usize) -> u64;
-    fn bench_segments(s: *const u8, length: usize) -> usize;
+    fn bench_read(s: *const u8, length: usize, spans: *mut usize) -> u64;
+    fn bench_segments(s: *const u8, length: usize, spans: *mut usize) -> usize;
 }
 
 type Input = Vec<u8>;
 
 fn rattle(s: &Input) -> u64 {
-    unsafe { bench_read(s.as_ptr(), s.len()) }
+    unsafe { bench_read(s.as_ptr(), s.len(), spans().as_mut_ptr().cast()) }
 }
 
 // The components are made in full, and then dropped.
 fn rust(s: &Input) -> u64 {
-    match std::hint::black_box(reader::read(s)) {
+    match std::hint::black_box(reader::read_spans(s, spans())) {
         Ok(_) => 0,
         Err(refusal) => packed(Err(refusal)),
     }
 }
 
 fn rattle_segments(s: &Input) -> usize {
-    unsafe { bench_segments(s.as_ptr(), s.len()) }
+    unsafe { bench_segments(s.as_ptr(), s.len(), spans().as_mut_ptr().cast()) }
 }
 
 fn rust_segments(s: &Input) -> usize {
@@ -32,6 +32,15 @@ fn rust_segments(s: &Input) -> usize {
 
 const CALLS: [Call<Input, u64>; 2] = [("rattle", rattle), ("rust", rust)];
 const SEGMENTS: [Call<Input, usize>; 2] = [("rattle", rattle_segments), ("rust", rust_segments)];
+
+// The answer, and where it is 0 what the array holds, of which every place held another span before.
+fn stored(call: fn(&Input) -> u64, s: &Input) -> (u64, Vec<Span>) {
+    spans().fill(Span { start: usize::MAX, length: usize::MAX });
+    let answer = call(s);
+    (answer, if answer == 0 { spans().to_vec() } else { Vec::new() })
+}
+
+const STORED: [Call<Input, (u64, Vec<Span>)>; 2] = [("rattle", |s| stored(rattle, s)), ("rust", |s| stored(rust, s))];
 
 // The inputs of the read requests that the comparison generates.
 fn requests(n: usize) -> Vec<Input> {
@@ -50,10 +59,10 @@ pub fn measure() {
     let segmented = |n| links::segmented(crate::inputs(), n);
     let inputs = [links::mixed(10_000), requests(10_000), links::SEGMENTS.map(segmented).concat(), links::SIZES.map(sized).concat()].concat();
     for input in &inputs {
-        agree(input, &CALLS);
+        agree(input, &STORED);
         agree(input, &SEGMENTS);
     }
-    println!("read: the numbers, the places and the segments agree");
+    println!("read: the numbers, the places, the spans and the segments agree");
     compare("mixed links", &[10_000], links::mixed, &CALLS);
     compare("requests", &[10_000], requests, &CALLS);
     compare("segments", &links::SEGMENTS, segmented, &CALLS);

@@ -12,7 +12,7 @@
 #include <stdlib.h>
 #include <string.h>
 
-enum { HEADER = 4, MOST = 2048 };
+enum { HEADER = 4, MOST = 2 * 4096 + 16 };
 
 /* What libcoap said last. */
 static char said[256];

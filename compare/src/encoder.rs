@@ -64,7 +64,7 @@ impl<'b> Buffer<'b> {
     }
 
     /// What has been written.
-    pub fn written(&self) -> &[u8] {
+    pub fn into_written(self) -> &'b [u8] {
         &self.bytes[..self.length]
     }
 }

@@ -12,6 +12,7 @@ mod requests;
 mod words;
 
 use crate::lines::{hex, MAX_LINE, MAX_ROOM};
+use crate::reader::{MAX_INPUT, MAX_SEGMENTS};
 use random::Random;
 
 /// Request lines without their line feeds; the same for the same seed.
@@ -62,10 +63,11 @@ const DAMAGED: [fn(&mut Random) -> String; 7] = [
 fn segment_request(random: &mut Random) -> String {
     let input = input(random);
     let n = match random.below(10) {
-        0..5 => random.below(input.segments as u64 + 1),
+        0..4 => random.below(input.segments as u64 + 1),
+        4 => input.segments as u64,
         5 => (input.segments as u64).saturating_sub(1),
         6 => input.segments as u64 + 1,
-        7 => random.below(40),
+        7 => random.below(MAX_SEGMENTS as u64 + 8),
         8 => random.number(),
         _ => u64::MAX - random.below(2),
     };
@@ -75,7 +77,7 @@ fn segment_request(random: &mut Random) -> String {
 /// Bytes to read: a reference, one with faults, or no reference at all.
 fn input(random: &mut Random) -> Input {
     match random.below(1000) {
-        0..300 => Input::of(reference::reference(random, 0)),
+        0..300 | 655..670 => Input::of(reference::reference(random, 0)),
         300..330 => {
             let mut made = reference::bracketed(random);
             match random.below(10) {
@@ -91,7 +93,7 @@ fn input(random: &mut Random) -> Input {
             let slips = random.pick(&[1, 1, 2]);
             Input::of(reference::reference(random, slips))
         }
-        630..670 => Input::of(reference::around_longest(random)),
+        630..655 => Input::of(reference::around_longest(random)),
         670..700 => {
             let mut input = Input::of(reference::reference(random, 0));
             damage::append(random, &mut input.bytes);
@@ -140,7 +142,7 @@ fn room(random: &mut Random, length: usize) -> usize {
         7 => random.index(length + 1),
         8 => random.pick(&[0, 1]),
         9 => length + random.index(100),
-        _ => random.pick(&[4096, MAX_ROOM - 1, MAX_ROOM]),
+        _ => random.pick(&[MAX_INPUT, MAX_ROOM - 1, MAX_ROOM]),
     };
     room.min(MAX_ROOM)
 }
@@ -276,6 +278,6 @@ impl Input {
 /// Far over the longest input, up to the longest line that holds one.
 fn long_input(random: &mut Random) -> Vec<u8> {
     let longest = (MAX_LINE - "segment  18446744073709551615".len()) / 2;
-    let length = random.pick(&[2048, 4096, 10_000, longest]);
+    let length = random.pick(&[MAX_INPUT + 100, 2 * MAX_INPUT, longest]);
     random.bytes(length)
 }

@@ -21,25 +21,25 @@ pub fn meant(input: &[u8], address: &[u8], port: u16) -> Option<Vec<Meant>> {
     if reference.fragment.is_some() {
         return None;
     }
-    let host = match &authority.host {
-        Host::Labels(labels) => Some(labels.join(".")),
-        Host::Address(own) if *own == address => None,
-        Host::Address(own) => Some(printed(own)),
+    let host = match authority.host {
+        Host::Labels(labels) => Some(labels.iter().collect::<Vec<_>>().join(&b'.')),
+        Host::Address(own) if own == address => None,
+        Host::Address(own) => Some(printed(own).into_bytes()),
     };
     let own_port = authority.port.unwrap_or(default);
-    let path = match reference.path.as_deref() {
-        None | Some([""]) => vec![],
-        Some(path) => path.to_vec(),
-    };
-    let query = reference.query.as_deref().unwrap_or_default();
+    let mut path: Vec<&[u8]> = reference.path.into_iter().flatten().collect();
+    if path == [b""] {
+        path.clear();
+    }
+    let query = reference.query.into_iter().flatten();
     let mut options = Vec::new();
-    options.extend(host.map(|host| (3, host.into_bytes())));
+    options.extend(host.map(|host| (3, host)));
     if own_port != port {
         let bytes = [own_port / 256, own_port % 256].map(|byte| byte as u8);
         options.push((7, bytes.into_iter().skip_while(|&byte| byte == 0).collect()));
     }
-    options.extend(path.iter().map(|segment| (11, Vec::from(*segment))));
-    options.extend(query.iter().map(|parameter| (15, Vec::from(*parameter))));
+    options.extend(path.into_iter().map(|segment| (11, segment.to_vec())));
+    options.extend(query.map(|parameter| (15, parameter.to_vec())));
     Some(options)
 }
 

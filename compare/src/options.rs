@@ -6,12 +6,12 @@
 #![forbid(unsafe_code)]
 
 use crate::encoder::{Buffer, Encoder, Meter, Put};
-use crate::reader::{read, Host, Reference, Scheme, MAX_INPUT};
+use crate::reader::{read, Host, Reference, Scheme, Texts, MAX_INPUT};
 use crate::refusal::{Reason, Refusal};
 use crate::uri_text::Short;
 
 /// A length that the options of no reference exceed.
-pub const ENOUGH: usize = 2 * MAX_INPUT;
+pub const ENOUGH: usize = 2 * MAX_INPUT + 16;
 
 const URI_HOST: u8 = 3;
 const URI_PORT: u8 = 7;
@@ -23,10 +23,7 @@ pub fn options(input: &[u8], address: &[u8], port: u16, room: &mut [u8]) -> Resu
     if !matches!(address.len(), 4 | 16) {
         return Err(Reason::Destination.into());
     }
-    // What is read is large, so it is borrowed and not moved.
-    let reference = read(input);
-    let reference = reference.as_ref().map_err(|&refusal| refusal)?;
-    let request = Request::of(reference, address, port)?;
+    let request = Request::of(&read(input)?, address, port)?;
     let mut meter = Meter::default();
     request.encode(&mut meter);
     let length = meter.length();
@@ -37,19 +34,19 @@ pub fn options(input: &[u8], address: &[u8], port: u16, room: &mut [u8]) -> Resu
 }
 
 /// The values of the options.
-struct Request<'r, 'a> {
+struct Request<'a> {
     /// The address, which is printed already, or nothing; then the labels, or none. There is no option where both are empty.
     address: Short<41>,
-    labels: &'r [&'a str],
+    labels: Texts<'a>,
     port: Option<u16>,
-    path: &'r [&'a str],
-    query: &'r [&'a str],
+    path: Texts<'a>,
+    query: Texts<'a>,
 }
 
-impl<'r, 'a> Request<'r, 'a> {
+impl<'a> Request<'a> {
     /// What a reference asks of a destination; or 8 or 11.
     #[inline]
-    fn of(reference: &'r Reference<'a>, address: &[u8], port: u16) -> Result<Self, Reason> {
+    fn of(reference: &Reference<'a>, address: &[u8], port: u16) -> Result<Self, Reason> {
         let (scheme, authority) = reference.absolute().ok_or(Reason::Base)?;
         let (Scheme::Number(scheme), None) = (scheme, reference.fragment) else {
             return Err(Reason::Coap);
@@ -57,13 +54,13 @@ impl<'r, 'a> Request<'r, 'a> {
         let own_port = authority.port.unwrap_or(default_port(scheme));
         let mut request = Request {
             address: Short::new(),
-            labels: &[],
+            labels: Texts::default(),
             port: Some(own_port).filter(|&own| own != port),
             path: reference.segments(),
-            query: reference.query.as_deref().unwrap_or_default(),
+            query: reference.parameters(),
         };
-        match &authority.host {
-            Host::Address(own) if *own == address => {}
+        match authority.host {
+            Host::Address(own) if own == address => {}
             Host::Address(own) => request.address.address(own),
             Host::Labels(labels) => request.labels = labels,
         }
@@ -73,13 +70,14 @@ impl<'r, 'a> Request<'r, 'a> {
     #[inline]
     fn encode(&self, to: &mut impl Encoder) -> Put {
         let mut last = 0;
-        if let [first, others @ ..] = self.labels {
-            let length = first.len() + others.iter().map(|label| 1 + label.len()).sum::<usize>();
-            head(to, &mut last, URI_HOST, length)?;
-            to.put(first.as_bytes())?;
-            for label in others {
+        let mut labels = self.labels.iter();
+        if let Some(first) = labels.next() {
+            let others = labels.clone().map(|label| 1 + label.len());
+            head(to, &mut last, URI_HOST, first.len() + others.sum::<usize>())?;
+            to.put(first)?;
+            for label in labels {
                 to.put(b".")?;
-                to.put(label.as_bytes())?;
+                to.put(label)?;
             }
         } else if let address @ [_, ..] = self.address.text() {
             option(to, &mut last, URI_HOST, address)?;
@@ -94,10 +92,10 @@ impl<'r, 'a> Request<'r, 'a> {
             )?;
         }
         for segment in self.path {
-            option(to, &mut last, URI_PATH, segment.as_bytes())?;
+            option(to, &mut last, URI_PATH, segment)?;
         }
         for parameter in self.query {
-            option(to, &mut last, URI_QUERY, parameter.as_bytes())?;
+            option(to, &mut last, URI_QUERY, parameter)?;
         }
         Some(())
     }

@@ -6,13 +6,16 @@
 #![forbid(unsafe_code)]
 
 use crate::refusal::{Reason, Refusal};
-use std::ops::{Deref, RangeInclusive};
+use std::ops::RangeInclusive;
 
-pub const MAX_INPUT: usize = 1024;
-pub const MAX_SEGMENTS: usize = 32;
+pub const MAX_INPUT: usize = 4096;
+pub const MAX_SEGMENTS: usize = 160;
 pub const MAX_PARAMETERS: usize = 16;
 pub const MAX_LABELS: usize = 8;
 pub const MAX_NAME: usize = 255;
+
+/// The most texts that a reference has in lists.
+pub const MAX_TEXTS: usize = MAX_LABELS + MAX_SEGMENTS + MAX_PARAMETERS;
 
 const OUTER_ITEMS: u64 = 5;
 const DISCARDS: RangeInclusive<u64> = 0..=127;
@@ -24,6 +27,13 @@ const SEGMENTS: RangeInclusive<u64> = 0..=MAX_SEGMENTS as u64;
 const PARAMETERS: RangeInclusive<u64> = 1..=MAX_PARAMETERS as u64;
 const TEXT_LENGTHS: RangeInclusive<u64> = 0..=255;
 
+/// The first byte of an empty text, and of one whose length is in the next byte.
+const EMPTY_TEXT: u8 = 0x60;
+const LONG_TEXT: u8 = 0x78;
+
+// No text of a list needs a longer head.
+const _: () = assert!(*TEXT_LENGTHS.end() <= u8::MAX as u64);
+
 /// The schemes that are written as a number, and their names.
 pub const KNOWN_SCHEMES: [(u8, &str); 6] = [
     (0, "coap"),
@@ -34,33 +44,38 @@ pub const KNOWN_SCHEMES: [(u8, &str); 6] = [
     (9, "coaps+ws"),
 ];
 
-#[derive(Clone, Debug, PartialEq, Eq)]
+#[derive(Clone, Copy, Debug, PartialEq, Eq)]
 pub struct Reference<'a> {
     pub opening: Opening<'a>,
-    pub path: Option<Texts<'a, MAX_SEGMENTS>>,
-    pub query: Option<Texts<'a, MAX_PARAMETERS>>,
+    pub path: Option<Texts<'a>>,
+    pub query: Option<Texts<'a>>,
     pub fragment: Option<&'a str>,
 }
 
 impl<'a> Reference<'a> {
     /// The scheme and the authority, where the reference is absolute.
-    pub fn absolute(&self) -> Option<(Scheme<'a>, &Authority<'a>)> {
-        match &self.opening {
+    pub fn absolute(&self) -> Option<(Scheme<'a>, Authority<'a>)> {
+        match self.opening {
             Opening::Discard(_) | Opening::Authority(Scheme::None, _) => None,
-            Opening::Authority(scheme, authority) => Some((*scheme, authority)),
+            Opening::Authority(scheme, authority) => Some((scheme, authority)),
         }
     }
 
     /// The segments of the path. One empty segment counts as no path, and so does an unset path.
-    pub fn segments(&self) -> &[&'a str] {
-        match self.path.as_deref() {
-            None | Some([""]) => &[],
-            Some(path) => path,
+    pub fn segments(&self) -> Texts<'a> {
+        match self.path {
+            Some(path) if !path.is_one_empty() => path,
+            _ => Texts::default(),
         }
+    }
+
+    /// The parameters of the query. A query that is set has one.
+    pub fn parameters(&self) -> Texts<'a> {
+        self.query.unwrap_or_default()
     }
 }
 
-#[derive(Clone, Debug, PartialEq, Eq)]
+#[derive(Clone, Copy, Debug, PartialEq, Eq)]
 pub enum Opening<'a> {
     Discard(Discard),
     Authority(Scheme<'a>, Authority<'a>),
@@ -94,7 +109,7 @@ impl<'a> Scheme<'a> {
     }
 }
 
-#[derive(Clone, Debug, PartialEq, Eq)]
+#[derive(Clone, Copy, Debug, PartialEq, Eq)]
 pub struct Authority<'a> {
     pub host: Host<'a>,
     pub port: Option<u16>,
@@ -102,69 +117,135 @@ pub struct Authority<'a> {
     pub encoded: &'a [u8],
 }
 
-#[derive(Clone, Debug, PartialEq, Eq)]
+#[derive(Clone, Copy, Debug, PartialEq, Eq)]
 pub enum Host<'a> {
     /// 4 or 16 bytes.
     Address(&'a [u8]),
-    Labels(Texts<'a, MAX_LABELS>),
+    Labels(Texts<'a>),
 }
 
-/// At most `MAX` texts, kept in place.
-#[derive(Clone)]
-pub struct Texts<'a, const MAX: usize> {
-    texts: [&'a str; MAX],
+/// A list of texts that were read, kept as the part of the input that holds their items.
+#[derive(Clone, Copy, Default, PartialEq, Eq)]
+pub struct Texts<'a> {
+    items: &'a [u8],
     count: usize,
 }
 
-impl<'a, const MAX: usize> Texts<'a, MAX> {
-    fn new() -> Self {
+impl<'a> Texts<'a> {
+    pub fn len(self) -> usize {
+        self.count
+    }
+
+    pub fn is_empty(self) -> bool {
+        self.count == 0
+    }
+
+    /// Whether these are one text, which is empty.
+    pub fn is_one_empty(self) -> bool {
+        self.items == [EMPTY_TEXT]
+    }
+
+    /// The items, one after the other, each with the shortest head.
+    pub fn items(self) -> &'a [u8] {
+        self.items
+    }
+
+    /// The contents in order, each of them UTF-8.
+    #[inline]
+    pub fn iter(self) -> Contents<'a> {
+        Contents { items: self.items }
+    }
+
+    /// The first `count` texts; there are at least so many.
+    pub fn prefix(self, count: usize) -> Self {
+        if count == self.count {
+            return self;
+        }
+        let mut contents = self.iter();
+        contents.by_ref().take(count).for_each(drop);
+        let length = self.items.len() - contents.items.len();
         Texts {
-            texts: [""; MAX],
-            count: 0,
+            items: &self.items[..length],
+            count,
         }
     }
+}
 
-    fn is_full(&self) -> bool {
-        self.count == MAX
-    }
+impl<'a> IntoIterator for Texts<'a> {
+    type Item = &'a [u8];
+    type IntoIter = Contents<'a>;
 
-    /// Panics where the list is full.
-    fn push(&mut self, text: &'a str) {
-        self.texts[self.count] = text;
-        self.count += 1;
+    #[inline]
+    fn into_iter(self) -> Contents<'a> {
+        self.iter()
     }
 }
 
-impl<'a, const MAX: usize> Deref for Texts<'a, MAX> {
-    type Target = [&'a str];
-
-    fn deref(&self) -> &[&'a str] {
-        &self.texts[..self.count]
-    }
-}
-
-impl<const MAX: usize> PartialEq for Texts<'_, MAX> {
-    fn eq(&self, other: &Self) -> bool {
-        **self == **other
-    }
-}
-
-impl<const MAX: usize> Eq for Texts<'_, MAX> {}
-
-impl<const MAX: usize> std::fmt::Debug for Texts<'_, MAX> {
+impl std::fmt::Debug for Texts<'_> {
     fn fmt(&self, f: &mut std::fmt::Formatter<'_>) -> std::fmt::Result {
-        f.debug_list().entries(self.iter()).finish()
+        let contents = self.iter().map(String::from_utf8_lossy);
+        f.debug_list().entries(contents).finish()
     }
+}
+
+/// The contents of texts whose items have been judged.
+#[derive(Clone)]
+pub struct Contents<'a> {
+    items: &'a [u8],
+}
+
+impl<'a> Iterator for Contents<'a> {
+    type Item = &'a [u8];
+
+    #[inline]
+    fn next(&mut self) -> Option<&'a [u8]> {
+        let (length, rest) = match self.items {
+            [LONG_TEXT, length, rest @ ..] => (*length, rest),
+            [first, rest @ ..] => (first - EMPTY_TEXT, rest),
+            [] => return None,
+        };
+        let (content, rest) = rest.split_at_checked(length.into())?;
+        self.items = rest;
+        Some(content)
+    }
+}
+
+/// Where a text or an address stands in a byte string. The order of the two is fixed, so that spans can be lent to C.
+#[derive(Clone, Copy, Debug, Default, PartialEq, Eq)]
+#[repr(C)]
+pub struct Span {
+    pub start: usize,
+    pub length: usize,
 }
 
 /// Reads `input` as one reference with nothing after it.
 pub fn read(input: &[u8]) -> Result<Reference<'_>, Refusal> {
+    read_with(input, |_| ())
+}
+
+/// The same, and stores in `spans`, one after the other, where the labels, the segments and the parameters stand in `input`. A refusal
+/// may leave those there that come before it.
+pub fn read_spans<'a>(
+    input: &'a [u8],
+    spans: &mut [Span; MAX_TEXTS],
+) -> Result<Reference<'a>, Refusal> {
+    let mut free = spans.iter_mut();
+    read_with(input, |span| {
+        if let Some(place) = free.next() {
+            *place = span;
+        }
+    })
+}
+
+/// The same, and tells of each label, segment and parameter where it stands.
+fn read_with(input: &[u8], tell: impl FnMut(Span)) -> Result<Reference<'_>, Refusal> {
     if input.len() > MAX_INPUT {
         return Err(Reason::Limit.at(MAX_INPUT));
     }
     let mut reader = Reader {
         rest: input,
         length: input.len(),
+        tell,
     };
     let (opening, left) = reader.opening()?;
     let mut reference = Reference {
@@ -174,10 +255,10 @@ pub fn read(input: &[u8]) -> Result<Reference<'_>, Refusal> {
         fragment: None,
     };
     if left >= 1 {
-        reader.texts(&mut reference.path, SEGMENTS, left == 1, is_segment)?;
+        reference.path = reader.texts(SEGMENTS, left == 1, is_segment)?;
     }
     if left >= 2 {
-        reader.texts(&mut reference.query, PARAMETERS, left == 2, |_| true)?;
+        reference.query = reader.texts(PARAMETERS, left == 2, |_| true)?;
     }
     if left >= 3 {
         reference.fragment = Some(reader.fragment()?);
@@ -225,12 +306,14 @@ impl Item {
     }
 }
 
-struct Reader<'a> {
+struct Reader<'a, T> {
     rest: &'a [u8],
     length: usize,
+    /// Takes where each text of a list stands.
+    tell: T,
 }
 
-impl<'a> Reader<'a> {
+impl<'a, T: FnMut(Span)> Reader<'a, T> {
     fn place(&self) -> usize {
         self.length - self.rest.len()
     }
@@ -300,41 +383,49 @@ impl<'a> Reader<'a> {
         let begin = self.rest;
         let array = self.item_of(Kind::Array)?;
         let count = self.within(array, AUTHORITY_ITEMS)?;
-        let mut host = self.first_of_host()?;
-        let mut port = None;
-        for _ in 1..count {
-            let item = self.item()?;
-            match (item.kind(), &mut host) {
-                (Kind::Text, Host::Labels(labels)) if port.is_none() => self.label(item, labels)?,
-                (Kind::Number, _) if port.is_none() => {
-                    port = Some(self.within(item, PORTS)? as u16);
-                }
-                _ => return Err(item.refuse(Reason::Form)),
-            }
+        let (host, hosts) = self.host(count)?;
+        let port = match count - hosts {
+            0 => None,
+            _ => Some(self.port()?),
+        };
+        if count - hosts > 1 {
+            return Err(self.item()?.refuse(Reason::Form));
         }
-        let encoded = &begin[..begin.len() - self.rest.len()];
-        match &host {
+        match host {
             Host::Labels(labels) if !is_name(labels) => Err(array.refuse(Reason::Rule)),
             _ => Ok(Authority {
                 host,
                 port,
-                encoded,
+                encoded: self.since(begin),
             }),
         }
     }
 
-    /// The address, or the first label.
-    fn first_of_host(&mut self) -> Result<Host<'a>, Refusal> {
+    /// The address or the labels, of at most `most` items, and how many items they are.
+    fn host(&mut self, most: u64) -> Result<(Host<'a>, u64), Refusal> {
+        let begin = self.rest;
         let item = self.item()?;
         match item.kind() {
-            Kind::Bytes => Ok(Host::Address(self.address(item)?)),
-            Kind::Text => {
-                let mut labels = Texts::new();
-                self.label(item, &mut labels)?;
-                Ok(Host::Labels(labels))
-            }
-            _ => Err(item.refuse(Reason::Form)),
+            Kind::Bytes => return Ok((Host::Address(self.address(item)?), 1)),
+            Kind::Text => self.label(item, 0)?,
+            _ => return Err(item.refuse(Reason::Form)),
         }
+        let mut count = 1;
+        while count < most && self.next_is_text() {
+            let item = self.item()?;
+            self.label(item, count)?;
+            count += 1;
+        }
+        let labels = Texts {
+            items: self.since(begin),
+            count: count as usize,
+        };
+        Ok((Host::Labels(labels), count))
+    }
+
+    fn port(&mut self) -> Result<u16, Refusal> {
+        let item = self.item_of(Kind::Number)?;
+        Ok(self.within(item, PORTS)? as u16)
     }
 
     fn address(&mut self, item: Item) -> Result<&'a [u8], Refusal> {
@@ -344,44 +435,46 @@ impl<'a> Reader<'a> {
         }
     }
 
-    fn label(&mut self, item: Item, labels: &mut Texts<'a, MAX_LABELS>) -> Result<(), Refusal> {
+    /// A label that comes after so many others.
+    fn label(&mut self, item: Item, others: u64) -> Result<(), Refusal> {
         let length = self.within(item, LABEL_LENGTHS)?;
-        if labels.is_full() {
+        if others == MAX_LABELS as u64 {
             return Err(item.refuse(Reason::Limit));
         }
-        let label = self.utf8(item, length as usize)?;
+        let label = self.listed(item, length as usize)?;
         if !is_label(label) {
             return Err(item.refuse(Reason::Rule));
         }
-        labels.push(label);
         Ok(())
     }
 
-    /// The path or the query: null, except as the last item, or an array of texts. It is read into its place, to spare a copy.
-    fn texts<const MAX: usize>(
+    /// The path or the query: null, except as the last item, or an array of texts.
+    fn texts(
         &mut self,
-        list: &mut Option<Texts<'a, MAX>>,
         counts: RangeInclusive<u64>,
         last: bool,
-        is_allowed: impl Fn(&str) -> bool,
-    ) -> Result<(), Refusal> {
+        is_allowed: impl Fn(&[u8]) -> bool,
+    ) -> Result<Option<Texts<'a>>, Refusal> {
         let array = self.item()?;
         match array.kind() {
-            Kind::Null if !last => return Ok(()),
+            Kind::Null if !last => return Ok(None),
             Kind::Array => {}
             _ => return Err(array.refuse(Reason::Form)),
         }
         let count = self.within(array, counts)?;
-        let texts = list.insert(Texts::new());
+        let begin = self.rest;
         for _ in 0..count {
             let item = self.item_of(Kind::Text)?;
-            let text = self.text(item, TEXT_LENGTHS)?;
+            let length = self.within(item, TEXT_LENGTHS)?;
+            let text = self.listed(item, length as usize)?;
             if !is_allowed(text) {
                 return Err(item.refuse(Reason::Rule));
             }
-            texts.push(text);
         }
-        Ok(())
+        Ok(Some(Texts {
+            items: self.since(begin),
+            count: count as usize,
+        }))
     }
 
     /// The fragment has the last place, so it is never null.
@@ -395,6 +488,15 @@ impl<'a> Reader<'a> {
             return Ok(());
         }
         Err(Reason::Tail.at(self.place()))
+    }
+
+    /// What has been read of `begin`, which was the rest before.
+    fn since(&self, begin: &'a [u8]) -> &'a [u8] {
+        &begin[..begin.len() - self.rest.len()]
+    }
+
+    fn next_is_text(&self) -> bool {
+        matches!(self.rest, [0x60..=0x7F, ..])
     }
 
     /// The next item's first byte.
@@ -443,12 +545,20 @@ impl<'a> Reader<'a> {
 
     fn text(&mut self, item: Item, lengths: RangeInclusive<u64>) -> Result<&'a str, Refusal> {
         let length = self.within(item, lengths)?;
-        self.utf8(item, length as usize)
+        let content = self.content(item, length as usize)?;
+        str::from_utf8(content).map_err(|_| item.refuse(Reason::Text))
     }
 
-    fn utf8(&mut self, item: Item, length: usize) -> Result<&'a str, Refusal> {
+    /// The content of a text of a list. Most are ASCII, which takes less time to find out.
+    #[inline(always)]
+    fn listed(&mut self, item: Item, length: usize) -> Result<&'a [u8], Refusal> {
         let content = self.content(item, length)?;
-        std::str::from_utf8(content).map_err(|_| item.refuse(Reason::Text))
+        if !is_ascii(content) && str::from_utf8(content).is_err() {
+            return Err(item.refuse(Reason::Text));
+        }
+        let start = self.place() - length;
+        (self.tell)(Span { start, length });
+        Ok(content)
     }
 
     /// The next `length` bytes, which belong to `item`.
@@ -462,6 +572,21 @@ impl<'a> Reader<'a> {
     }
 }
 
+/// Whether all bytes are ASCII: eight at a time, the last eight once more.
+fn is_ascii(text: &[u8]) -> bool {
+    const HIGH_BITS: u64 = 0x8080_8080_8080_8080;
+    match text.last_chunk() {
+        Some(&last) => {
+            let (words, _) = text.as_chunks();
+            let all = words.iter().fold(u64::from_ne_bytes(last), |all, &word| {
+                all | u64::from_ne_bytes(word)
+            });
+            all & HIGH_BITS == 0
+        }
+        None => text.iter().fold(0, |all, byte| all | byte) < 0x80,
+    }
+}
+
 fn is_scheme(text: &str) -> bool {
     text.starts_with(|c: char| c.is_ascii_lowercase())
         && text
@@ -469,28 +594,33 @@ fn is_scheme(text: &str) -> bool {
             .all(|b| matches!(b, b'a'..=b'z' | b'0'..=b'9' | b'+' | b'.' | b'-'))
 }
 
-fn is_segment(text: &str) -> bool {
-    text != "." && text != ".."
+fn is_segment(text: &[u8]) -> bool {
+    text != b"." && text != b".."
 }
 
 /// The rules of one label: no dot, no upper-case letter, no bracket.
-fn is_label(label: &str) -> bool {
+fn is_label(label: &[u8]) -> bool {
     !label
-        .bytes()
+        .iter()
         .any(|b| matches!(b, b'.' | b'A'..=b'Z' | b'[' | b']'))
 }
 
 /// The rules over all labels: at most 255 bytes with the dots between them, and no IPv4 look.
-fn is_name(labels: &[&str]) -> bool {
+fn is_name(labels: Texts) -> bool {
     let dots = labels.len() - 1;
-    let length = labels.iter().map(|label| label.len()).sum::<usize>() + dots;
-    let looks_like_ipv4 = labels.len() == 4 && labels.iter().all(|label| is_decimal_byte(label));
+    let length = labels.iter().map(<[u8]>::len).sum::<usize>() + dots;
+    let looks_like_ipv4 = labels.len() == 4 && labels.iter().all(is_decimal_byte);
     length <= MAX_NAME && !looks_like_ipv4
 }
 
 /// Whether `label` is a decimal 0 to 255 without leading zeros.
-fn is_decimal_byte(label: &str) -> bool {
-    let leading_zero = label.len() > 1 && label.starts_with('0');
-    let digits = label.bytes().all(|b| b.is_ascii_digit());
-    digits && !leading_zero && label.parse::<u8>().is_ok()
+fn is_decimal_byte(label: &[u8]) -> bool {
+    matches!(
+        label,
+        [b'0'..=b'9']
+            | [b'1'..=b'9', b'0'..=b'9']
+            | [b'1', b'0'..=b'9', b'0'..=b'9']
+            | [b'2', b'0'..=b'4', b'0'..=b'9']
+            | [b'2', b'5', b'0'..=b'5']
+    )
 }

@@ -6,18 +6,14 @@
 #![forbid(unsafe_code)]
 
 use crate::encoder::{items_after, Buffer, Encoder, Meter, Put, NEGATIVE, NULL, TEXT};
-use crate::reader::{read, Discard, Opening, Reference, Scheme, MAX_INPUT, MAX_SEGMENTS};
+use crate::reader::{read, Discard, Opening, Reference, Scheme, Texts, MAX_INPUT, MAX_SEGMENTS};
 use crate::refusal::{Reason, Refusal};
 
 /// Writes the resolved CRI to the start of `room` and gives its length.
 pub fn resolve(base: &[u8], reference: &[u8], room: &mut [u8]) -> Result<usize, Refusal> {
-    // What is read is large, so it is borrowed and not moved.
-    let base = read(base);
-    let base = base.as_ref().map_err(|refusal| refusal.of_base())?;
-    let base = Cri::base(base).ok_or(Reason::Base)?;
-    let reference = read(reference);
-    let reference = reference.as_ref().map_err(|&refusal| refusal)?;
-    let result = base.resolved(reference);
+    let base = read(base).map_err(Refusal::of_base)?;
+    let base = Cri::base(&base).ok_or(Reason::Base)?;
+    let result = base.resolved(&read(reference)?);
     let length = result.length().ok_or(Reason::Result)?;
     let written = room.get_mut(..length).ok_or(Reason::Room)?;
     let encoded = result.encode(&mut Buffer::new(written));
@@ -26,34 +22,34 @@ pub fn resolve(base: &[u8], reference: &[u8], room: &mut [u8]) -> Result<usize, 
 }
 
 /// An absolute CRI, of components that were read.
-struct Cri<'r, 'a> {
+struct Cri<'a> {
     scheme: Scheme<'a>,
     /// The whole item.
     authority: &'a [u8],
     /// The path: what is kept of the base's, and what the reference appends. Unset where it is empty.
-    kept: &'r [&'a str],
-    appended: &'r [&'a str],
+    kept: Texts<'a>,
+    appended: Texts<'a>,
     /// Unset where it is empty: a query that is set has a parameter.
-    query: &'r [&'a str],
+    query: Texts<'a>,
     fragment: Option<&'a str>,
 }
 
-impl<'r, 'a> Cri<'r, 'a> {
+impl<'a> Cri<'a> {
     /// What a reference is as a base, where it is absolute: 5.0.
-    fn base(reference: &'r Reference<'a>) -> Option<Self> {
+    fn base(reference: &Reference<'a>) -> Option<Self> {
         let (scheme, authority) = reference.absolute()?;
         Some(Cri {
             scheme,
             authority: authority.encoded,
             kept: reference.segments(),
-            appended: &[],
-            query: reference.query.as_deref().unwrap_or_default(),
+            appended: Texts::default(),
+            query: reference.parameters(),
             fragment: None,
         })
     }
 
     /// The base resolved with a reference. It has no fragment that a step could unset.
-    fn resolved(mut self, reference: &'r Reference<'a>) -> Self {
+    fn resolved(mut self, reference: &Reference<'a>) -> Self {
         // 5.1
         let discard = match reference.opening {
             Opening::Discard(discard) => discard,
@@ -63,30 +59,30 @@ impl<'r, 'a> Cri<'r, 'a> {
             Discard::All => 0,
             Discard::Last(count) => self.kept.len().saturating_sub(count.into()),
         };
-        self.kept = &self.kept[..kept];
+        self.kept = self.kept.prefix(kept);
         if discard != Discard::Last(0) {
-            self.query = &[];
+            self.query = Texts::default();
         }
         // 5.2
-        if let Some(path) = &reference.path {
+        if let Some(path) = reference.path {
             self.appended = path;
-            self.query = &[];
+            self.query = Texts::default();
         }
         // 5.3
-        if let Opening::Authority(scheme, authority) = &reference.opening {
-            if *scheme != Scheme::None {
-                self.scheme = *scheme;
+        if let Opening::Authority(scheme, authority) = reference.opening {
+            if scheme != Scheme::None {
+                self.scheme = scheme;
             }
             self.authority = authority.encoded;
         }
-        if let Some(query) = &reference.query {
+        if let Some(query) = reference.query {
             self.query = query;
         }
         self.fragment = reference.fragment;
         // 5.4
-        if let ([""], []) | ([], [""]) = (self.kept, self.appended) {
-            self.kept = &[];
-            self.appended = &[];
+        if self.segments() == 1 && (self.kept.is_one_empty() || self.appended.is_one_empty()) {
+            self.kept = Texts::default();
+            self.appended = Texts::default();
         }
         self
     }
@@ -131,17 +127,12 @@ impl<'r, 'a> Cri<'r, 'a> {
     }
 }
 
-/// An array of the texts of all lists; null where there are none.
-fn texts<const LISTS: usize>(to: &mut impl Encoder, lists: [&[&str]; LISTS]) -> Put {
+/// An array of the texts of all lists, whose items are copied; null where there are none.
+fn texts<const LISTS: usize>(to: &mut impl Encoder, lists: [Texts; LISTS]) -> Put {
     let count = lists.iter().map(|list| list.len()).sum();
     if count == 0 {
         return to.put(&[NULL]);
     }
     to.array(count)?;
-    for list in lists {
-        for text in list {
-            to.string(TEXT, text.as_bytes())?;
-        }
-    }
-    Some(())
+    lists.iter().try_for_each(|list| to.put(list.items()))
 }

@@ -6,7 +6,7 @@
 #![forbid(unsafe_code)]
 
 use crate::encoder::{Buffer, Encoder};
-use crate::reader::{read, Host, Reference, MAX_LABELS, MAX_PARAMETERS, MAX_SEGMENTS};
+use crate::reader::{read, Host, Reference, Texts, MAX_TEXTS};
 use crate::refusal::{Reason, Refusal};
 
 /// A length that the text of an encoding of `length` bytes never exceeds.
@@ -16,16 +16,17 @@ pub const fn longest(length: usize) -> usize {
 
 /// Writes the text to the start of `room` and gives its length.
 pub fn uri_text(input: &[u8], room: &mut [u8]) -> Result<usize, Refusal> {
-    // What is read is large, so it is borrowed and not moved.
-    let reference = read(input);
-    let reference = reference.as_ref().map_err(|&refusal| refusal)?;
-    let uri = Uri::of(reference).ok_or(Reason::Base)?;
-    let mut measured = Measured::default();
+    let uri = Uri::of(&read(input)?).ok_or(Reason::Base)?;
+    let mut measured = Measured {
+        length: 0,
+        bare: [false; PIECES],
+        pieces: 0,
+    };
     uri.print(&mut measured);
     let text = room.get_mut(..measured.length).ok_or(Reason::Room)?;
     uri.print(&mut Written {
         to: Buffer::new(text),
-        bare: measured.bare,
+        bare: measured.bare.iter(),
     });
     Ok(measured.length)
 }
@@ -91,19 +92,18 @@ trait Print {
     fn plain(&mut self, bytes: &[u8]);
 
     /// The bytes of `text`, those escaped that are not bare in this place.
-    fn escaped(&mut self, place: Place, text: &str);
+    fn escaped(&mut self, place: Place, text: &[u8]);
 }
 
-/// The length of a text, and of each piece that may need escaping, from the lowest bit on, whether it needs none.
-#[derive(Default)]
+/// The length of a text, and of each piece that may need escaping, whether it needs none.
 struct Measured {
     length: usize,
-    bare: u64,
-    pieces: u32,
+    bare: [bool; PIECES],
+    pieces: usize,
 }
 
-// The fragment is one more.
-const _: () = assert!(MAX_LABELS + MAX_SEGMENTS + MAX_PARAMETERS < u64::BITS as usize);
+/// The most pieces that may need escaping: the texts of lists, and the fragment.
+const PIECES: usize = MAX_TEXTS + 1;
 
 impl Print for Measured {
     #[inline]
@@ -112,21 +112,21 @@ impl Print for Measured {
     }
 
     #[inline]
-    fn escaped(&mut self, place: Place, text: &str) {
-        let escapes = text.bytes().filter(|&byte| !place.is_bare(byte)).count();
+    fn escaped(&mut self, place: Place, text: &[u8]) {
+        let escapes = text.iter().filter(|&&byte| !place.is_bare(byte)).count();
         self.length += text.len() + 2 * escapes;
-        self.bare |= u64::from(escapes == 0) << self.pieces;
+        self.bare[self.pieces] = escapes == 0;
         self.pieces += 1;
     }
 }
 
-/// Writes a text that has been measured. `bare` is what was measured, less the bits of the pieces that are written.
-struct Written<'b> {
+/// Writes a text that has been measured. `bare` is what was measured of the pieces that are not written yet.
+struct Written<'b, 'm> {
     to: Buffer<'b>,
-    bare: u64,
+    bare: std::slice::Iter<'m, bool>,
 }
 
-impl Print for Written<'_> {
+impl Print for Written<'_, '_> {
     #[inline]
     fn plain(&mut self, bytes: &[u8]) {
         let put = self.to.put(bytes);
@@ -134,13 +134,11 @@ impl Print for Written<'_> {
     }
 
     #[inline]
-    fn escaped(&mut self, place: Place, text: &str) {
-        let bare = self.bare & 1 != 0;
-        self.bare >>= 1;
-        if bare {
-            return self.plain(text.as_bytes());
+    fn escaped(&mut self, place: Place, text: &[u8]) {
+        if self.bare.next() == Some(&true) {
+            return self.plain(text);
         }
-        for byte in text.bytes() {
+        for &byte in text {
             if place.is_bare(byte) {
                 self.plain(&[byte]);
             } else {
@@ -151,34 +149,34 @@ impl Print for Written<'_> {
 }
 
 /// The parts of a text.
-struct Uri<'r, 'a> {
+struct Uri<'a> {
     scheme: &'a str,
     /// The address, which is printed already, or nothing; then the labels, or none.
     address: Short<41>,
-    labels: &'r [&'a str],
+    labels: Texts<'a>,
     /// ":" and the port, or nothing.
     port: Short<6>,
-    path: &'r [&'a str],
+    path: Texts<'a>,
     /// Unset where it is empty: a query that is set has a parameter.
-    query: &'r [&'a str],
+    query: Texts<'a>,
     fragment: Option<&'a str>,
 }
 
-impl<'r, 'a> Uri<'r, 'a> {
+impl<'a> Uri<'a> {
     /// `None` where the reference is not absolute.
     #[inline]
-    fn of(reference: &'r Reference<'a>) -> Option<Self> {
+    fn of(reference: &Reference<'a>) -> Option<Self> {
         let (scheme, authority) = reference.absolute()?;
         let mut uri = Uri {
             scheme: scheme.name()?,
             address: Short::new(),
-            labels: &[],
+            labels: Texts::default(),
             port: Short::new(),
             path: reference.segments(),
-            query: reference.query.as_deref().unwrap_or_default(),
+            query: reference.parameters(),
             fragment: reference.fragment,
         };
-        match &authority.host {
+        match authority.host {
             Host::Address(address) => uri.address.address(address),
             Host::Labels(labels) => uri.labels = labels,
         }
@@ -203,14 +201,14 @@ impl<'r, 'a> Uri<'r, 'a> {
         joined(to, Place::Parameter, self.query, b"?", b"&");
         if let Some(fragment) = self.fragment {
             to.plain(b"#");
-            to.escaped(Place::Fragment, fragment);
+            to.escaped(Place::Fragment, fragment.as_bytes());
         }
     }
 }
 
 /// Prints `texts`: `first` stands before the first one, and `between` before each other.
 #[inline]
-fn joined(to: &mut impl Print, place: Place, texts: &[&str], first: &[u8], between: &[u8]) {
+fn joined(to: &mut impl Print, place: Place, texts: Texts, first: &[u8], between: &[u8]) {
     let mut before = first;
     for text in texts {
         to.plain(before);

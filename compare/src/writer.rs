@@ -1,6 +1,6 @@
 //! Writes a reference from components whose texts are spans of lent bytes, as section 9 of docs/RULES.md gives it.
 //!
-//! The encoding is made in an array of the largest size, judged by the reader and then copied. So nothing is allocated, and a refusal
+//! The encoding is made in an array that is long enough, judged by the reader and then copied. So nothing is allocated, and a refusal
 //! leaves the room as it was.
 
 #![forbid(unsafe_code)]
@@ -8,15 +8,9 @@
 use crate::encoder::{
     items_after, Buffer, Encoder, Put, BYTES, NEGATIVE, NULL, NUMBER, TEXT, TRUE,
 };
+pub use crate::reader::Span;
 use crate::reader::{read, MAX_INPUT, MAX_LABELS, MAX_PARAMETERS, MAX_SEGMENTS};
 use crate::refusal::{Reason, Refusal};
-
-/// A part of the lent bytes.
-#[derive(Clone, Copy, Debug, PartialEq, Eq)]
-pub struct Span {
-    pub start: usize,
-    pub length: usize,
-}
 
 #[derive(Clone, Copy, Debug)]
 pub struct Components<'c> {
@@ -57,30 +51,45 @@ pub enum Host<'c> {
     Labels(&'c [Span]),
 }
 
+/// The length of an array in which most encodings fit: one of the largest size takes more time to make.
+const SHORT: usize = 1024;
+
 /// Writes the encoding to the start of `room` and gives its length. Every refusal has place 0, the reader's too: what it
 /// judges is made here.
 pub fn write(components: &Components, lent: &[u8], room: &mut [u8]) -> Result<usize, Refusal> {
-    let mut bytes = [0; MAX_INPUT];
-    let mut encoding = Encoding {
-        lent,
-        to: Buffer::new(&mut bytes),
+    let mut short = [0; SHORT];
+    let mut long;
+    let encoded = match Encoding::of(components, lent, &mut short) {
+        Some(encoded) => encoded,
+        None => {
+            long = [0; MAX_INPUT];
+            Encoding::of(components, lent, &mut long).ok_or(Reason::Limit)?
+        }
     };
-    encoding.reference(components).ok_or(Reason::Limit)?;
-    let encoded = encoding.to.written();
     read(encoded).map_err(|refusal| refusal.reason)?;
     let written = room.get_mut(..encoded.len()).ok_or(Reason::Room)?;
     written.copy_from_slice(encoded);
     Ok(encoded.len())
 }
 
-/// An encoding that is being made. `None` is given for a count over its size, a span outside the lent bytes, and an encoding over the
-/// largest size: all have the same number.
+/// An encoding that is being made. `None` is given for a count over its size, a span outside the lent bytes, and an encoding that does
+/// not fit: all have the same number.
 struct Encoding<'l, 'b> {
     lent: &'l [u8],
     to: Buffer<'b>,
 }
 
-impl Encoding<'_, '_> {
+impl<'l, 'b> Encoding<'l, 'b> {
+    /// The encoding, made at the start of `bytes`.
+    fn of(components: &Components, lent: &'l [u8], bytes: &'b mut [u8]) -> Option<&'b [u8]> {
+        let mut encoding = Encoding {
+            lent,
+            to: Buffer::new(bytes),
+        };
+        encoding.reference(components)?;
+        Some(encoding.to.into_written())
+    }
+
     fn reference(&mut self, components: &Components) -> Put {
         let Components {
             opening,

@@ -7,6 +7,7 @@ use compare::generate::Generator;
 use compare::lines;
 use compare::options::{options, ENOUGH};
 use compare::reader::{read, Discard, Host, Opening, Reference, Scheme, Texts};
+use compare::reader::{MAX_INPUT, MAX_SEGMENTS};
 use compare::refusal::Refusal;
 use compare::resolver::resolve;
 use compare::uri_text::{longest, uri_text};
@@ -122,14 +123,41 @@ fn accepted() -> Vec<Vec<u8>> {
         .collect()
 }
 
-fn labels<'r>(reference: &'r Reference) -> &'r [&'r str] {
-    match &reference.opening {
-        Opening::Authority(_, authority) => match &authority.host {
-            Host::Labels(labels) => labels,
-            Host::Address(_) => &[],
+fn strings(texts: Texts<'_>) -> Vec<&str> {
+    let text = |text| str::from_utf8(text).expect("UTF-8");
+    texts.iter().map(text).collect()
+}
+
+fn labels<'a>(reference: &Reference<'a>) -> Vec<&'a str> {
+    match reference.opening {
+        Opening::Authority(_, authority) => match authority.host {
+            Host::Labels(labels) => strings(labels),
+            Host::Address(_) => vec![],
         },
-        Opening::Discard(_) => &[],
+        Opening::Discard(_) => vec![],
     }
+}
+
+fn path<'a>(reference: &Reference<'a>) -> Option<Vec<&'a str>> {
+    reference.path.map(strings)
+}
+
+fn query<'a>(reference: &Reference<'a>) -> Option<Vec<&'a str>> {
+    reference.query.map(strings)
+}
+
+/// How many segments the path has; none where it is unset.
+fn segments(reference: &Reference) -> usize {
+    reference.path.map_or(0, Texts::len)
+}
+
+fn parameters(reference: &Reference) -> usize {
+    reference.query.map_or(0, Texts::len)
+}
+
+/// Whether one of the texts has this length.
+fn has_length(texts: Option<Texts>, length: usize) -> bool {
+    texts.is_some_and(|texts| texts.iter().any(|text| text.len() == length))
 }
 
 fn port(reference: &Reference) -> Option<u16> {
@@ -154,7 +182,7 @@ type Property = (&'static str, fn(&Reference) -> bool);
 
 #[test]
 fn every_limit_is_reached() {
-    let properties: [Property; 16] = [
+    let properties: [Property; 17] = [
         ("discard 127", |r| {
             r.opening == Opening::Discard(Discard::Last(127))
         }),
@@ -171,25 +199,14 @@ fn every_limit_is_reached() {
         }),
         ("name of 255", |r| name_length(r) == 255),
         ("port 65535", |r| port(r) == Some(65535)),
-        ("empty path", |r| r.path.as_deref() == Some(&[])),
-        ("32 segments", |r| {
-            r.path.as_ref().is_some_and(|path| path.len() == 32)
+        ("empty path", |r| r.path.is_some_and(Texts::is_empty)),
+        ("one segment less than the most", |r| {
+            segments(r) == MAX_SEGMENTS - 1
         }),
-        ("segment of 255", |r| {
-            r.path
-                .iter()
-                .flat_map(|path| path.iter())
-                .any(|text| text.len() == 255)
-        }),
-        ("16 parameters", |r| {
-            r.query.as_ref().is_some_and(|query| query.len() == 16)
-        }),
-        ("parameter of 255", |r| {
-            r.query
-                .iter()
-                .flat_map(|query| query.iter())
-                .any(|text| text.len() == 255)
-        }),
+        ("the most segments", |r| segments(r) == MAX_SEGMENTS),
+        ("segment of 255", |r| has_length(r.path, 255)),
+        ("16 parameters", |r| parameters(r) == 16),
+        ("parameter of 255", |r| has_length(r.query, 255)),
         ("fragment of 0", |r| r.fragment == Some("")),
         ("fragment of 255", |r| {
             r.fragment.is_some_and(|text| text.len() == 255)
@@ -210,8 +227,20 @@ fn every_limit_is_reached() {
             .count();
         assert!(often >= 10, "{name}: {often} times");
     }
-    let longest = inputs.iter().filter(|input| input.len() == 1024).count();
-    assert!(longest >= 10, "input of 1,024: {longest} times");
+    let longest = inputs.iter().filter(|input| input.len() == MAX_INPUT);
+    let longest: Vec<_> = longest
+        .map(|input| segments(&read(input).expect("accepted")))
+        .collect();
+    assert!(
+        longest.len() >= 10,
+        "the longest input: {} times",
+        longest.len()
+    );
+    let both = longest
+        .iter()
+        .filter(|&&count| count == MAX_SEGMENTS)
+        .count();
+    assert!(both >= 5, "the same with the most segments: {both} times");
 }
 
 /// A property of the words of a request and of its answer.
@@ -258,10 +287,12 @@ fn every_limit_of_writing_is_passed() {
     let properties: [WriteProperty; 31] = [
         ("8 labels", |r, a| count(r, "label") == 8 && a[0] == "0"),
         ("9 labels", |r, _| count(r, "label") == 9),
-        ("32 segments", |r, a| {
-            count(r, "segment") == 32 && a[0] == "0"
+        ("the most segments", |r, a| {
+            count(r, "segment") == MAX_SEGMENTS && a[0] == "0"
         }),
-        ("33 segments", |r, _| count(r, "segment") == 33),
+        ("one segment over", |r, a| {
+            count(r, "segment") == MAX_SEGMENTS + 1 && a[0] == "4"
+        }),
         ("16 parameters", |r, a| {
             count(r, "parameter") == 16 && a[0] == "0"
         }),
@@ -292,13 +323,15 @@ fn every_limit_of_writing_is_passed() {
             has(r, &["scheme", "number", "0", "path"])
         }),
         ("room exact", |r, a| a[0] == "0" && r[1] == a[1]),
-        ("one more than the room", |r, a| {
-            a[0] == "10" && r[1] == "1023"
+        ("the longest, and the room one short", |r, a| {
+            a[0] == "10" && r[1] == (MAX_INPUT - 1).to_string()
         }),
         ("empty room", |r, a| r[1] == "0" && a[0] == "10"),
         ("largest room", |r, a| r[1] == "16384" && a[0] == "0"),
-        ("written 1,023", |_, a| a[1] == "1023"),
-        ("written 1,024", |_, a| a[1] == "1024"),
+        ("the longest less one byte", |_, a| {
+            a[1] == (MAX_INPUT - 1).to_string()
+        }),
+        ("the longest", |_, a| a[1] == MAX_INPUT.to_string()),
         ("empty span at the end", |r, a| {
             a[0] == "0" && any_span(r, |start, length, lent| length == 0 && start == lent)
         }),
@@ -351,6 +384,8 @@ fn room(words: &[&str]) -> usize {
 struct Pair<'a> {
     base: Reference<'a>,
     reference: Reference<'a>,
+    base_path: Vec<&'a str>,
+    appended: Vec<&'a str>,
     room: usize,
     outcome: Result<usize, u8>,
 }
@@ -358,30 +393,23 @@ struct Pair<'a> {
 impl<'a> Pair<'a> {
     /// `None` where the base or the reference is refused, or the base not absolute.
     fn of((room, base, reference): &'a (usize, Vec<u8>, Vec<u8>)) -> Option<Self> {
+        let outcome = resolve(base, reference, &mut [0; MAX_INPUT]).map_err(Refusal::number);
+        let [base, reference] = [read(base).ok()?, read(reference).ok()?];
         let pair = Pair {
-            base: read(base).ok()?,
-            reference: read(reference).ok()?,
+            base,
+            reference,
+            base_path: path(&base).unwrap_or_default(),
+            appended: path(&reference).unwrap_or_default(),
             room: *room,
-            outcome: resolve(base, reference, &mut [0; 1024]).map_err(Refusal::number),
+            outcome,
         };
         pair.base.absolute().is_some().then_some(pair)
     }
 
-    fn base_path(&self) -> &[&'a str] {
-        self.base.path.as_deref().unwrap_or_default()
-    }
-
-    fn appended(&self) -> &[&'a str] {
-        self.reference.path.as_deref().unwrap_or_default()
-    }
-
     /// What is left of the base's path by the discard alone.
     fn kept(&self) -> &[&'a str] {
-        let path = self.base_path();
-        let kept = path
-            .len()
-            .saturating_sub(self.discard().unwrap_or(usize::MAX));
-        &path[..kept]
+        let discard = self.discard().unwrap_or(usize::MAX);
+        &self.base_path[..self.base_path.len().saturating_sub(discard)]
     }
 
     /// How many segments the reference discards; `None` where it discards all.
@@ -397,12 +425,13 @@ impl<'a> Pair<'a> {
     }
 
     fn segments(&self) -> usize {
-        self.kept().len() + self.appended().len()
+        self.kept().len() + self.appended.len()
     }
 
-    /// The length of a result with 1 to 23 segments and no query but the reference's.
+    /// The length of a result with segments and no query but the reference's.
     fn length(&self) -> usize {
-        let text = |text: &&str| text.len() + if text.len() < 24 { 1 } else { 2 };
+        let head = |number: usize| if number < 24 { 1 } else { 2 };
+        let text = |text: &&str| text.len() + head(text.len());
         let texts = |texts: &[&str]| texts.iter().map(text).sum::<usize>();
         let scheme = match self.reference.absolute().or(self.base.absolute()) {
             Some((Scheme::Text(scheme), _)) => text(&scheme),
@@ -414,14 +443,24 @@ impl<'a> Pair<'a> {
             }
             _ => 0,
         };
-        let path = 1 + texts(self.kept()) + texts(self.appended());
-        let after = match (&self.reference.query, self.reference.fragment) {
-            (Some(query), None) => 1 + texts(query),
+        let path = head(self.segments()) + texts(self.kept()) + texts(&self.appended);
+        let after = match (query(&self.reference), self.reference.fragment) {
+            (Some(query), None) => 1 + texts(&query),
             (None, Some(fragment)) => 1 + text(&fragment),
-            (Some(query), Some(fragment)) => 1 + texts(query) + text(&fragment),
+            (Some(query), Some(fragment)) => 1 + texts(&query) + text(&fragment),
             (None, None) => 0,
         };
         1 + scheme + authority + path + after
+    }
+}
+
+impl Pair<'_> {
+    /// Whether the length alone is over its size, by one byte.
+    fn is_one_byte_over(&self) -> bool {
+        self.reference.path.is_some()
+            && (1..=MAX_SEGMENTS).contains(&self.segments())
+            && self.length() == MAX_INPUT + 1
+            && self.outcome == Err(9)
     }
 }
 
@@ -429,60 +468,81 @@ type PairProperty = (&'static str, fn(&Pair) -> bool);
 
 #[test]
 fn every_sort_of_pair_is_resolved() {
-    let properties: [PairProperty; 35] = [
-        ("31 segments", |p| p.segments() == 31 && p.outcome.is_ok()),
-        ("32 segments", |p| p.segments() == 32 && p.outcome.is_ok()),
-        ("32 segments, some of each", |p| {
-            (1..32).contains(&p.kept().len()) && p.segments() == 32 && p.outcome.is_ok()
+    let properties: [PairProperty; 39] = [
+        ("one segment less than the most", |p| {
+            p.segments() == MAX_SEGMENTS - 1 && p.outcome.is_ok()
         }),
-        ("33 segments", |p| p.segments() == 33),
-        ("64 segments", |p| p.segments() == 64),
-        ("1,023 bytes", |p| p.outcome == Ok(1023)),
-        ("1,024 bytes", |p| p.outcome == Ok(1024)),
-        ("1,024 bytes of both paths", |p| {
-            p.outcome == Ok(1024) && !p.kept().is_empty() && !p.appended().is_empty()
+        ("the most segments", |p| {
+            p.segments() == MAX_SEGMENTS && p.outcome.is_ok()
         }),
-        ("1,025 bytes", |p| {
-            p.reference.path.is_some()
-                && (1..24).contains(&p.segments())
-                && p.length() == 1025
-                && p.outcome == Err(9)
+        ("the most segments, some of each", |p| {
+            (1..MAX_SEGMENTS).contains(&p.kept().len())
+                && p.segments() == MAX_SEGMENTS
+                && p.outcome.is_ok()
+        }),
+        ("one segment over", |p| {
+            p.segments() == MAX_SEGMENTS + 1 && p.outcome == Err(9)
+        }),
+        ("twice the most segments", |p| {
+            p.segments() == 2 * MAX_SEGMENTS
+        }),
+        ("the longest less one byte", |p| {
+            p.outcome == Ok(MAX_INPUT - 1)
+        }),
+        ("the longest", |p| p.outcome == Ok(MAX_INPUT)),
+        ("the longest, of both paths", |p| {
+            p.outcome == Ok(MAX_INPUT) && !p.kept().is_empty() && !p.appended.is_empty()
+        }),
+        ("the longest, of the most segments", |p| {
+            p.outcome == Ok(MAX_INPUT) && p.segments() == MAX_SEGMENTS
+        }),
+        ("one byte over, of few segments", |p| {
+            p.is_one_byte_over() && p.segments() < 24
+        }),
+        ("one byte over, of more", |p| {
+            p.is_one_byte_over() && (24..MAX_SEGMENTS).contains(&p.segments())
+        }),
+        ("one byte over, of the most segments", |p| {
+            p.is_one_byte_over() && p.segments() == MAX_SEGMENTS
         }),
         ("discard 0", |p| p.discard() == Some(0)),
         ("discard 1", |p| p.discard() == Some(1)),
         ("discard one less than there are", |p| {
-            p.discard().map(|count| count + 1) == Some(p.base_path().len())
+            p.discard().map(|count| count + 1) == Some(p.base_path.len())
         }),
         ("discard as many as there are", |p| {
-            p.discard() == Some(p.base_path().len())
+            p.discard() == Some(p.base_path.len())
         }),
         ("discard one more than there are", |p| {
-            p.discard() == Some(p.base_path().len() + 1)
+            p.discard() == Some(p.base_path.len() + 1)
         }),
         ("discard 127", |p| p.discard() == Some(127)),
+        ("discard 127 of more", |p| {
+            p.discard() == Some(127) && p.base_path.len() > 127
+        }),
         ("discard true", |p| {
             p.reference.opening == Opening::Discard(Discard::All)
         }),
         ("base of one empty segment", |p| {
-            p.base_path() == [""] && p.keeps_all() && p.reference.path.is_none()
+            p.base_path == [""] && p.keeps_all() && p.reference.path.is_none()
         }),
         ("base of one empty segment, another appended", |p| {
-            p.base_path() == [""] && p.keeps_all() && p.appended() == [""]
+            p.base_path == [""] && p.keeps_all() && p.appended == [""]
         }),
         ("base of one empty segment, others appended", |p| {
-            p.base_path() == [""] && p.keeps_all() && p.appended().len() > 1
+            p.base_path == [""] && p.keeps_all() && p.appended.len() > 1
         }),
         ("one empty segment kept", |p| {
-            p.base_path().len() > 1 && p.kept() == [""] && p.appended().is_empty()
+            p.base_path.len() > 1 && p.kept() == [""] && p.appended.is_empty()
         }),
         ("one empty segment appended", |p| {
-            p.base_path().len() > 1 && p.kept().is_empty() && p.appended() == [""]
+            p.base_path.len() > 1 && p.kept().is_empty() && p.appended == [""]
         }),
         ("two empty segments, one of each", |p| {
-            p.base_path().len() > 1 && p.kept() == [""] && p.appended() == [""]
+            p.base_path.len() > 1 && p.kept() == [""] && p.appended == [""]
         }),
-        ("33 segments, the last one empty", |p| {
-            p.segments() == 33 && p.appended().last() == Some(&"")
+        ("one segment over, the last one empty", |p| {
+            p.segments() == MAX_SEGMENTS + 1 && p.appended.last() == Some(&"")
         }),
         (
             "base with query and fragment, nothing of the reference",
@@ -498,7 +558,7 @@ fn every_sort_of_pair_is_resolved() {
         ("base with query, empty path", |p| {
             p.base.query.is_some()
                 && p.keeps_all()
-                && p.reference.path.as_deref() == Some(&[])
+                && p.reference.path.is_some_and(Texts::is_empty)
                 && p.reference.query.is_none()
         }),
         ("base with query, only a fragment", |p| {
@@ -567,7 +627,7 @@ fn bases_are_refused_at_every_sort_of_place() {
                 Ok(_) => ("not absolute", 0),
                 Err(refusal) => match refusal.place {
                     0 => ("start", 0),
-                    1024 => ("length", 1024),
+                    MAX_INPUT => ("length", MAX_INPUT),
                     place if place == base.len() => ("end", place),
                     place => ("later", place),
                 },
@@ -713,18 +773,18 @@ fn every_sort_of_reference_is_printed() {
         ("port 65535", |r| port(r) == Some(65535)),
         ("the default port", has_default_port),
         ("path unset", |r| r.path.is_none()),
-        ("empty path", |r| r.path.as_deref() == Some(&[])),
-        ("one empty segment", |r| r.path.as_deref() == Some(&[""])),
+        ("empty path", |r| r.path.is_some_and(Texts::is_empty)),
+        ("one empty segment", |r| {
+            r.path.is_some_and(Texts::is_one_empty)
+        }),
         ("two empty segments", |r| {
-            r.path.as_deref() == Some(&["", ""])
+            path(r).as_deref() == Some(&["", ""])
         }),
-        ("32 segments", |r| {
-            r.path.as_ref().is_some_and(|path| path.len() == 32)
+        ("the most segments", |r| segments(r) == MAX_SEGMENTS),
+        ("one empty parameter", |r| {
+            r.query.is_some_and(Texts::is_one_empty)
         }),
-        ("one empty parameter", |r| r.query.as_deref() == Some(&[""])),
-        ("16 parameters", |r| {
-            r.query.as_ref().is_some_and(|query| query.len() == 16)
-        }),
+        ("16 parameters", |r| parameters(r) == 16),
         ("fragment of 0", |r| r.fragment == Some("")),
     ];
     let requests = text_requests();
@@ -777,11 +837,11 @@ fn rooms_around_the_text() {
         ("of a refused input, empty", |p| {
             p.outcome == Err(5) && p.room == 0
         }),
-        ("of an input of 1,024 bytes", |p| {
-            p.outcome.is_ok() && p.input.len() == 1024
+        ("of the longest input", |p| {
+            p.outcome.is_ok() && p.input.len() == MAX_INPUT
         }),
-        ("of a text over 2,000 bytes", |p| {
-            p.outcome.is_ok_and(|length| length > 2000)
+        ("of a text over twice the longest input", |p| {
+            p.outcome.is_ok_and(|length| length > 2 * MAX_INPUT)
         }),
     ];
     let requests = text_requests();
@@ -802,9 +862,9 @@ fn every_byte_is_printed_in_every_place() {
     for request in text_requests() {
         if request.outcome.is_ok() {
             let reference = read(&request.input).expect("printed");
-            see(0, labels(&reference));
-            see(1, reference.path.as_deref().unwrap_or_default());
-            see(2, reference.query.as_deref().unwrap_or_default());
+            see(0, &labels(&reference));
+            see(1, &path(&reference).unwrap_or_default());
+            see(2, &query(&reference).unwrap_or_default());
             see(3, reference.fragment.as_slice());
         }
     }
@@ -840,17 +900,8 @@ fn differences(a: &Reference, b: &Reference) -> Vec<&'static str> {
 
 type SameProperty = (&'static str, fn(&Reference, &Reference) -> bool);
 
-fn path<'r>(reference: &'r Reference) -> Option<&'r [&'r str]> {
-    reference.path.as_deref()
-}
-
-/// The texts of a path or a query.
-fn texts<'r, const MAX: usize>(list: &'r Option<Texts<'r, MAX>>) -> &'r [&'r str] {
-    list.as_deref().unwrap_or_default()
-}
-
 /// Whether `one` is `two` with two neighbours made one text.
-fn joined(two: Option<&[&str]>, one: Option<&[&str]>, between: &str) -> bool {
+fn joined(two: Option<Vec<&str>>, one: Option<Vec<&str>>, between: &str) -> bool {
     let (Some(two), Some(one)) = (two, one) else {
         return false;
     };
@@ -858,8 +909,8 @@ fn joined(two: Option<&[&str]>, one: Option<&[&str]>, between: &str) -> bool {
 }
 
 /// The byte in place of which the second list has "%" and its digits, where that is how the two differ.
-fn escaped(first: &[&str], second: &[&str]) -> Option<u8> {
-    let (first, second) = (first.join(" "), second.join(" "));
+fn escaped(first: Option<Vec<&str>>, second: Option<Vec<&str>>) -> Option<u8> {
+    let [first, second] = [first, second].map(|texts| texts.unwrap_or_default().join(" "));
     first.bytes().enumerate().find_map(|(place, byte)| {
         let [before, after] = [&first.as_bytes()[..place], &first.as_bytes()[place + 1..]];
         let digits = format!("%{byte:02x}");
@@ -911,24 +962,26 @@ fn every_sort_of_pair_is_compared() {
             differences(a, b) == ["port"] && port(a).is_none() && has_default_port(b)
         }),
         ("unset and an empty path", |a, b| {
-            differences(a, b) == ["path"] && path(a).is_none() && path(b) == Some(&[])
+            differences(a, b) == ["path"] && a.path.is_none() && path(b) == Some(vec![])
         }),
         ("unset and one empty segment", |a, b| {
-            differences(a, b) == ["path"] && path(a).is_none() && path(b) == Some(&[""])
+            differences(a, b) == ["path"] && a.path.is_none() && path(b) == Some(vec![""])
         }),
         ("an empty path and one empty segment", |a, b| {
-            differences(a, b) == ["path"] && path(a) == Some(&[]) && path(b) == Some(&[""])
+            differences(a, b) == ["path"] && path(a) == Some(vec![]) && path(b) == Some(vec![""])
         }),
         ("one empty segment and two", |a, b| {
-            differences(a, b) == ["path"] && path(a) == Some(&[""]) && path(b) == Some(&["", ""])
+            differences(a, b) == ["path"]
+                && path(a) == Some(vec![""])
+                && path(b) == Some(vec!["", ""])
         }),
         ("query unset and one empty parameter", |a, b| {
-            differences(a, b) == ["query"] && a.query.is_none() && b.query.as_deref() == Some(&[""])
+            differences(a, b) == ["query"] && a.query.is_none() && query(b) == Some(vec![""])
         }),
         ("one empty parameter and two", |a, b| {
             differences(a, b) == ["query"]
-                && a.query.as_deref() == Some(&[""])
-                && b.query.as_deref() == Some(&["", ""])
+                && query(a) == Some(vec![""])
+                && query(b) == Some(vec!["", ""])
         }),
         ("fragment unset and empty", |a, b| {
             differences(a, b) == ["fragment"] && a.fragment.is_none() && b.fragment == Some("")
@@ -937,7 +990,7 @@ fn every_sort_of_pair_is_compared() {
             differences(a, b) == ["path"] && joined(path(a), path(b), "/")
         }),
         ("parameters joined", |a, b| {
-            differences(a, b) == ["query"] && joined(a.query.as_deref(), b.query.as_deref(), "&")
+            differences(a, b) == ["query"] && joined(query(a), query(b), "&")
         }),
         ("a query in a segment", |a, b| {
             differences(a, b) == ["path", "query"]
@@ -947,9 +1000,7 @@ fn every_sort_of_pair_is_compared() {
         ("a fragment in a parameter", |a, b| {
             differences(a, b) == ["query", "fragment"]
                 && b.fragment.is_none()
-                && b.query
-                    .as_ref()
-                    .is_some_and(|query| query.last().is_some_and(|text| text.contains('#')))
+                && query(b).is_some_and(|query| query.last().is_some_and(|text| text.contains('#')))
         }),
         ("a port in a label", |a, b| {
             differences(a, b) == ["host", "port"]
@@ -962,24 +1013,27 @@ fn every_sort_of_pair_is_compared() {
                 && labels(b).last().is_some_and(|label| label.contains('/'))
         }),
         ("a byte of a label as digits", |a, b| {
-            differences(a, b) == ["host"] && escaped(labels(a), labels(b)).is_some()
+            differences(a, b) == ["host"] && escaped(Some(labels(a)), Some(labels(b))).is_some()
         }),
         ("a byte of a segment as digits", |a, b| {
-            differences(a, b) == ["path"] && escaped(texts(&a.path), texts(&b.path)).is_some()
+            differences(a, b) == ["path"] && escaped(path(a), path(b)).is_some()
         }),
         ("a slash of a segment as digits", |a, b| {
-            differences(a, b) == ["path"] && escaped(texts(&a.path), texts(&b.path)) == Some(b'/')
+            differences(a, b) == ["path"] && escaped(path(a), path(b)) == Some(b'/')
         }),
         ("a byte of a parameter as digits", |a, b| {
-            differences(a, b) == ["query"] && escaped(texts(&a.query), texts(&b.query)).is_some()
+            differences(a, b) == ["query"] && escaped(query(a), query(b)).is_some()
         }),
         ("an ampersand of a parameter as digits", |a, b| {
-            differences(a, b) == ["query"]
-                && escaped(texts(&a.query), texts(&b.query)) == Some(b'&')
+            differences(a, b) == ["query"] && escaped(query(a), query(b)) == Some(b'&')
         }),
         ("a byte of a fragment as digits", |a, b| {
             differences(a, b) == ["fragment"]
-                && escaped(a.fragment.as_slice(), b.fragment.as_slice()).is_some()
+                && escaped(
+                    a.fragment.map(|text| vec![text]),
+                    b.fragment.map(|text| vec![text]),
+                )
+                .is_some()
         }),
         ("all", |a, b| differences(a, b).len() == 6),
     ];
@@ -1118,6 +1172,10 @@ impl<'a> Link<'a> {
         self.own_port() != self.port
     }
 
+    fn path(&self) -> Option<Texts<'a>> {
+        Some(self.reference.segments())
+    }
+
     fn has_path(&self) -> bool {
         !self.reference.segments().is_empty()
     }
@@ -1228,43 +1286,45 @@ fn every_sort_of_link_is_asked() {
             l.has_port() && l.own_port() / 256 == l.port / 256
         }),
         ("path unset", |l| l.reference.path.is_none()),
-        ("empty path", |l| path(&l.reference) == Some(&[])),
-        ("one empty segment", |l| path(&l.reference) == Some(&[""])),
+        ("empty path", |l| path(&l.reference) == Some(vec![])),
+        ("one empty segment", |l| {
+            path(&l.reference) == Some(vec![""])
+        }),
         ("one empty segment and nothing else", |l| {
-            path(&l.reference) == Some(&[""]) && l.has() == [false; 4]
+            path(&l.reference) == Some(vec![""]) && l.has() == [false; 4]
         }),
         ("one empty segment and a query", |l| {
-            path(&l.reference) == Some(&[""]) && l.has() == [false, false, false, true]
+            path(&l.reference) == Some(vec![""]) && l.has() == [false, false, false, true]
         }),
         ("two empty segments", |l| {
-            path(&l.reference) == Some(&["", ""])
+            path(&l.reference) == Some(vec!["", ""])
         }),
-        ("32 segments", |l| l.reference.segments().len() == 32),
+        ("the most segments", |l| {
+            segments(&l.reference) == MAX_SEGMENTS
+        }),
         ("one empty parameter", |l| {
-            l.reference.query.as_deref() == Some(&[""])
+            query(&l.reference) == Some(vec![""])
         }),
-        ("16 parameters", |l| texts(&l.reference.query).len() == 16),
+        ("16 parameters", |l| parameters(&l.reference) == 16),
         ("8 labels", |l| labels(&l.reference).len() == 8),
         ("a byte that a URI would escape", |l| {
             name_length(&l.reference) > 0 && labels(&l.reference).concat().contains(['%', '/', ' '])
         }),
-        ("a segment of 23", |l| {
-            has_length(l.reference.segments(), 23)
-        }),
-        ("a segment of 24", |l| {
-            has_length(l.reference.segments(), 24)
-        }),
-        ("a parameter of 23", |l| {
-            has_length(texts(&l.reference.query), 23)
-        }),
-        ("a parameter of 24", |l| {
-            has_length(texts(&l.reference.query), 24)
-        }),
+        ("a segment of 23", |l| has_length(l.path(), 23)),
+        ("a segment of 24", |l| has_length(l.path(), 24)),
+        ("a parameter of 23", |l| has_length(l.reference.query, 23)),
+        ("a parameter of 24", |l| has_length(l.reference.query, 24)),
         ("labels of 63 and a further one", |l| {
-            name_length(&l.reference) > 63 && has_length(labels(&l.reference), 63)
+            let label = |label: &&str| label.len() == 63;
+            name_length(&l.reference) > 63 && labels(&l.reference).iter().any(label)
         }),
         ("segments of over 900 bytes", |l| {
-            l.reference.segments().concat().len() > 900
+            l.reference
+                .segments()
+                .iter()
+                .map(<[u8]>::len)
+                .sum::<usize>()
+                > 900
         }),
     ];
     let requests = options_requests();
@@ -1295,10 +1355,10 @@ fn every_sort_of_link_is_asked() {
     }
     for length in [0, 1, 12, 13, 14, 254, 255] {
         reached(format!("a segment of {length}"), &|l| {
-            has_length(l.reference.segments(), length)
+            has_length(l.path(), length)
         });
         reached(format!("a parameter of {length}"), &|l| {
-            has_length(texts(&l.reference.query), length)
+            has_length(l.reference.query, length)
         });
         if length > 0 {
             reached(format!("a name of {length}"), &|l| {
@@ -1323,14 +1383,11 @@ fn every_sort_of_link_is_asked() {
         reached(format!("{has:?}"), &|l| l.has() == has);
         if has[3] {
             reached(format!("{has:?}, a long parameter"), &|l| {
-                l.has() == has && texts(&l.reference.query)[0].len() > 12
+                let first = l.reference.parameters().iter().next();
+                l.has() == has && first.is_some_and(|first| first.len() > 12)
             });
         }
     }
-}
-
-fn has_length(texts: &[&str], length: usize) -> bool {
-    texts.iter().any(|text| text.len() == length)
 }
 
 type AskedProperty = (&'static str, fn(&Asked) -> bool);
@@ -1351,11 +1408,11 @@ fn rooms_and_refusals_of_options() {
             a.outcome == Ok(0) && a.room > 0
         }),
         ("largest room", |a| a.outcome.is_ok() && a.room == 16_384),
-        ("over 1,024 bytes", |a| {
-            a.outcome.is_ok_and(|length| length > 1024)
+        ("longer than the longest input", |a| {
+            a.outcome.is_ok_and(|length| length > MAX_INPUT)
         }),
-        ("an input of 1,024 bytes", |a| {
-            a.outcome.is_ok() && a.input.len() == 1024
+        ("the longest input", |a| {
+            a.outcome.is_ok() && a.input.len() == MAX_INPUT
         }),
         ("11, no room", |a| a.outcome == Err(11) && a.room == 0),
         ("8, no room", |a| a.outcome == Err(8) && a.room == 0),

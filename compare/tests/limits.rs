@@ -3,7 +3,7 @@
 mod answered;
 
 use answered::{requests_of, unhex, Words};
-use compare::reader::{read, MAX_INPUT};
+use compare::reader::{read, MAX_INPUT, MAX_SEGMENTS};
 use compare::refusal::Refusal;
 use std::collections::BTreeMap;
 use std::fmt::Debug;
@@ -377,6 +377,7 @@ fn bad_heads_after_a_port() {
 #[test]
 fn every_size_at_its_limit_one_below_and_one_over() {
     use Part::*;
+    const MOST: u64 = MAX_SEGMENTS as u64;
     let inputs = inputs();
     let accepted = Tally::of(
         walked(&inputs)
@@ -400,7 +401,7 @@ fn every_size_at_its_limit_one_below_and_one_over() {
         (Label, &[1, 2, 62, 63], &[0, 64, 65, 255, 256]),
         (NinthLabel, &[], &[1]),
         (Port, &[0, 1, 65_534, 65_535], &[65_536, 65_537, u64::MAX]),
-        (Path, &[0, 1, 2, 31, 32], &[33, 34]),
+        (Path, &[0, 1, 2, MOST - 1, MOST], &[MOST + 1, MOST + 2]),
         (Segment, &[0, 1, 23, 24, 254, 255], &[256, 257]),
         (Query, &[1, 2, 15, 16], &[0, 17, 18]),
         (Parameter, &[0, 1, 23, 24, 254, 255], &[256, 257]),
@@ -781,6 +782,70 @@ fn every_size_of_components() {
     met.has_all(wanted);
 }
 
+/// The length of what the words of components say, as an encoding.
+fn encoded_length(words: &[&str]) -> usize {
+    let head = |number: u64| match number {
+        0..=23 => 1,
+        24..=0xFF => 2,
+        0x100..=0xFFFF => 3,
+        0x1_0000..=0xFFFF_FFFF => 5,
+        _ => 9,
+    };
+    let number = |place: usize| words[place].parse::<u64>().unwrap_or(0);
+    let count = |name: &str| words.iter().filter(|&&word| word == name).count();
+    let length = |(place, word): (usize, &&str)| match *word {
+        "text" | "address" | "label" | "segment" | "parameter" | "fragment" => {
+            head(number(place + 2)) + number(place + 2) as usize
+        }
+        "discard" | "number" | "port" => head(number(place + 1)),
+        "none" | "authority" => 1,
+        "path" => head(count("segment") as u64),
+        "query" => head(count("parameter") as u64),
+        _ => 0,
+    };
+    // A lone 0 is not written.
+    if words.len() == 2 && words[0] == "discard" && words[1].parse() == Ok(0) {
+        return 1;
+    }
+    // The nulls before what is set.
+    let [path, query, fragment] = ["path", "query", "fragment"].map(|name| count(name) > 0);
+    let nulls = usize::from(!path && (query || fragment)) + usize::from(!query && fragment);
+    let lengths = words.iter().enumerate().map(length);
+    1 + nulls + lengths.sum::<usize>()
+}
+
+/// The number of segments, and the length of the encoding, with the number answered.
+#[test]
+fn the_largest_components() {
+    const MOST: usize = MAX_SEGMENTS;
+    let said: Vec<_> = requests_of("write")
+        .map(|(words, answer)| {
+            let segments = words.iter().filter(|&&word| word == "segment").count();
+            (segments, encoded_length(&words[3..]), answer)
+        })
+        .collect();
+    // An encoding that is written has that length.
+    for (_, length, answer) in &said {
+        if answer[0] == "0" {
+            assert_eq!(answer[1], length.to_string());
+        }
+    }
+    let segments = Tally::of(said.iter().map(|(count, _, answer)| (*count, answer[0])));
+    segments.has_all([
+        (MOST - 1, "0"),
+        (MOST, "0"),
+        (MOST + 1, "4"),
+        (MOST + 2, "4"),
+    ]);
+    let lengths = Tally::of(said.iter().map(|(_, length, answer)| (*length, answer[0])));
+    lengths.has_all([
+        (MAX_INPUT - 1, "0"),
+        (MAX_INPUT, "0"),
+        (MAX_INPUT + 1, "4"),
+        (MAX_INPUT + 2, "4"),
+    ]);
+}
+
 /// For each call that writes, where it is done with room enough: how long the room is beside what is written.
 #[test]
 fn rooms_around_what_is_written() {
@@ -812,23 +877,24 @@ fn rooms_around_what_is_written() {
     }
 }
 
-/// For each input of each call the lengths 1,023 and 1,024, where the call is done, and 1,025, with the number that it then has, and the
-/// place where one is told.
+/// For each input of each call the largest size and one byte less, where the call is done, and one byte more, with the number that it
+/// then has, and the place where one is told.
 #[test]
 fn the_longest_inputs_of_every_call() {
     let mut met = Vec::new();
     let mut wanted = Vec::new();
+    let [limit, base] = [4, 8].map(|number| format!("{number} at {MAX_INPUT}"));
     for (call, input, number, over) in [
-        ("read", 1, 0, "4 at 1024"),
-        ("segment", 1, 0, "4 at 1024"),
-        ("resolve", 2, 0, "8 at 1024"),
-        ("resolve", 3, 0, "4 at 1024"),
-        ("authority", 1, 0, "4 at 1024"),
-        ("authority", 2, 0, "8 at 1024"),
-        ("text", 2, 0, "4 at 1024"),
+        ("read", 1, 0, &*limit),
+        ("segment", 1, 0, &limit),
+        ("resolve", 2, 0, &base),
+        ("resolve", 3, 0, &limit),
+        ("authority", 1, 0, &limit),
+        ("authority", 2, 0, &base),
+        ("text", 2, 0, &limit),
         ("same", 1, 0, "4"),
         ("same", 2, 1, "4"),
-        ("options", 2, 0, "4 at 1024"),
+        ("options", 2, 0, &limit),
     ] {
         let length = |(words, answer): (Words, Words)| {
             let told = match answer[number..] {
@@ -840,8 +906,12 @@ fn the_longest_inputs_of_every_call() {
         };
         met.extend(requests_of(call).map(length));
         wanted.extend(
-            [(1023, "0"), (1024, "0"), (1025, over)]
-                .map(|(length, told)| (call, input, length, told.to_string())),
+            [
+                (MAX_INPUT - 1, "0"),
+                (MAX_INPUT, "0"),
+                (MAX_INPUT + 1, over),
+            ]
+            .map(|(length, told)| (call, input, length, told.to_string())),
         );
     }
     Tally::of(met).has_all(wanted);
@@ -853,7 +923,7 @@ fn segments_around_the_last() {
         let input = unhex(words[1]);
         let reference = read(&input).ok()?;
         let n: u64 = words[2].parse().expect("a number");
-        let path = reference.path.as_deref();
+        let path = reference.path;
         let count = path.unwrap_or_default().len() as u64;
         let from_end = match n.checked_sub(count) {
             Some(0) => "the first that is not there",
@@ -864,13 +934,16 @@ fn segments_around_the_last() {
         };
         let path = match path {
             None => "unset",
-            Some([]) => "empty",
-            Some([""]) => "one empty segment",
+            Some(path) if path.is_empty() => "empty",
+            Some(path) if path.is_one_empty() => "one empty segment",
+            Some(path) if path.len() == MAX_SEGMENTS => "the most segments",
             Some(_) => "segments",
         };
         Some((path, from_end))
     }));
-    for path in ["unset", "empty", "one empty segment", "segments"] {
+    for path in [
+        "unset", "empty", "one empty segment", "segments", "the most segments",
+    ] {
         met.has_all(
             [
                 "the first that is not there",
@@ -881,5 +954,6 @@ fn segments_around_the_last() {
         );
     }
     met.has_all([("one empty segment", "the last"), ("segments", "the last")]);
-    met.has_all([("segments", "before the last")]);
+    met.has_all([("the most segments", "the last")]);
+    met.has_all(["segments", "the most segments"].map(|path| (path, "before the last")));
 }

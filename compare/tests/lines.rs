@@ -1,6 +1,7 @@
 //! Requests, answers, and lines that are no requests.
 
 use compare::lines::{answer, call, meant_by, write_from_answer, write_from_itself, MAX_LINE};
+use compare::reader::{MAX_INPUT, MAX_SEGMENTS};
 use compare::refusal::Reason;
 use compare::views::segment;
 
@@ -264,7 +265,7 @@ fn authority_answers_a_view() {
 /// Every call that reads, with an input of each of the reader's refusals.
 #[test]
 fn the_readers_refusals_in_every_call() {
-    let over = "80".repeat(1025);
+    let over = "80".repeat(MAX_INPUT + 1);
     for (input, number, place) in [
         ("-", 1, 0),
         ("82208161", 1, 3),
@@ -275,7 +276,7 @@ fn the_readers_refusals_in_every_call() {
         ("82208361680516", 2, 6),
         ("82208261681805", 3, 5),
         ("82208261681a00010000", 4, 5),
-        (&over, 4, 1024),
+        (&over, 4, MAX_INPUT),
         ("822082616161ff", 5, 5),
         ("8220826161615a", 6, 5),
         ("8220826161655b3a3a315d", 6, 5),
@@ -321,7 +322,8 @@ fn the_readers_refusals_in_every_call() {
 /// 9 to 12 and 18.
 #[test]
 fn other_numbers_stand_alone() {
-    let most_segments = format!("83208161689820{}", "6161".repeat(32));
+    let segments = "6161".repeat(MAX_SEGMENTS);
+    let most_segments = format!("832081616898{MAX_SEGMENTS:02x}{segments}");
     let one_more = format!("resolve 999 {most_segments} 8200816161");
     for (request, expected) in [
         (one_more.as_str(), "9 0 - kept"),
@@ -526,7 +528,8 @@ fn no_requests() {
 #[test]
 fn the_longest_line() {
     let line = |length: usize| format!("read {}", "8".repeat(length - "read ".len()));
-    assert_eq!(answer(line(MAX_LINE - 1).as_bytes()), "4 at 1024");
+    let told = format!("4 at {MAX_INPUT}");
+    assert_eq!(answer(line(MAX_LINE - 1).as_bytes()), told);
     assert!(answer(line(MAX_LINE + 1).as_bytes()).starts_with("? "));
 }
 

@@ -7,10 +7,11 @@ mod not_absolute;
 mod told;
 
 use compare::generate::Generator;
-use compare::reader::{read, Host, Scheme};
+use compare::reader::{read, Host, Scheme, Texts};
+use compare::reader::{MAX_INPUT, MAX_LABELS, MAX_PARAMETERS, MAX_SEGMENTS, MAX_TEXTS};
 use compare::resolver::resolve;
 use compare::uri_text::{longest, uri_text};
-use encode::{array, bytes, head, text_of, texts};
+use encode::{array, bytes, filling, head, text_of};
 use not_absolute::NOT_ABSOLUTE;
 use std::collections::{BTreeMap, BTreeSet};
 use std::net::{Ipv4Addr, Ipv6Addr};
@@ -61,7 +62,7 @@ fn table() {
 
 #[track_caller]
 fn resolved_prints(base: &str, reference: &str, text: &str) {
-    let mut room = [0; 1024];
+    let mut room = [0; MAX_INPUT];
     let length = resolve(&bytes(base), &bytes(reference), &mut room);
     let resolved = &room[..length.expect("it resolves")];
     assert_eq!(printed(resolved), Ok(text.to_string()), "{reference}");
@@ -384,7 +385,7 @@ fn refusals_in_their_order() {
         assert_eq!(printed(&bytes(hex)), Err((number, place)), "{hex}");
         assert_eq!(in_no_room(&bytes(hex)), Err((number, place)), "{hex}");
     }
-    assert_eq!(in_no_room(&[0x80; 1025]), Err((4, 1024)));
+    assert_eq!(in_no_room(&[0x80; MAX_INPUT + 1]), Err((4, MAX_INPUT)));
     assert_eq!(in_no_room(&bytes("82 20 81 61 68")), Err((10, 0)));
 }
 
@@ -422,17 +423,61 @@ fn rooms() {
 
 #[test]
 fn the_longest_inputs() {
-    let plain = [bytes("83 20 81 61 68"), texts(&[255, 255, 255, 245])].concat();
-    assert_eq!(plain.len(), 1024);
-    let text = printed(&plain).expect("a text");
-    assert_eq!(text.len(), "coap://h".len() + 4 + 3 * 255 + 245);
-    let long = |last: usize| {
-        let segments = [255, 255, 255, last].map(|length| text_of(&vec![b' '; length]));
+    // `coap://h` has 5 bytes, with the head of the outer array.
+    let lengths = filling(MAX_INPUT - 5);
+    let total: usize = lengths.iter().sum();
+    let with = |lengths: &[usize], byte: u8| {
+        let segments: Vec<_> = lengths
+            .iter()
+            .map(|&length| text_of(&vec![byte; length]))
+            .collect();
         [bytes("83 20 81 61 68"), array(&segments)].concat()
     };
-    let text = printed(&long(245)).expect("a text");
-    assert_eq!(text.len(), "coap://h".len() + 4 + 3 * (3 * 255 + 245));
-    assert_eq!(printed(&long(246)), Err((4, 1024)));
+    assert_eq!(with(&lengths, b'a').len(), MAX_INPUT);
+    let text = printed(&with(&lengths, b'a')).expect("a text");
+    assert_eq!(text.len(), "coap://h".len() + lengths.len() + total);
+    let text = printed(&with(&lengths, b' ')).expect("a text");
+    assert_eq!(text.len(), "coap://h".len() + lengths.len() + 3 * total);
+    let over = with(&filling(MAX_INPUT - 4), b' ');
+    assert_eq!(printed(&over), Err((4, MAX_INPUT)));
+}
+
+/// The most texts of every sort, some of them escaped: each by itself, and the last ones.
+#[test]
+fn the_most_texts() {
+    let list = |count: usize, escaped: &dyn Fn(usize) -> bool| -> Vec<&str> {
+        (0..count)
+            .map(|place| if escaped(place) { "a b" } else { "c-d" })
+            .collect()
+    };
+    let check = |escaped: &dyn Fn(usize) -> bool| {
+        let labels = list(MAX_LABELS, escaped);
+        let path = list(MAX_SEGMENTS, &|place| escaped(place + MAX_LABELS));
+        let query = list(MAX_PARAMETERS, &|place| {
+            escaped(place + MAX_LABELS + MAX_SEGMENTS)
+        });
+        let encoded = |texts: &[&str]| {
+            let items: Vec<_> = texts.iter().map(|text| text_of(text.as_bytes())).collect();
+            array(&items)
+        };
+        let fragment = text_of(b"e f");
+        let lists = [&labels, &path, &query].map(|texts| encoded(texts));
+        let input = [&bytes("85 20"), lists.concat().as_slice(), &fragment].concat();
+        let text = format!(
+            "coap://{}/{}?{}#e f",
+            labels.join("."),
+            path.join("/"),
+            query.join("&")
+        );
+        assert_eq!(printed(&input), Ok(text.replace(' ', "%20")));
+    };
+    for place in 0..MAX_TEXTS {
+        check(&|other| other == place);
+        check(&|other| other != place);
+    }
+    check(&|_| false);
+    check(&|_| true);
+    check(&|place| place % 2 == 0);
 }
 
 /// The bytes of the words of requests that are bytes.
@@ -483,7 +528,8 @@ fn the_bound() {
     assert!(closest >= 9, "{closest}");
     assert!(closest <= 12, "{closest}");
     assert!(inputs > 10_000, "{inputs}");
-    assert_eq!([longest(0), longest(1024)], [13, 3085]);
+    assert_eq!(longest(0), 13);
+    assert_eq!(longest(MAX_INPUT), 3 * MAX_INPUT + 13);
 }
 
 /// The items of an absolute reference that section 8 compares.
@@ -501,8 +547,9 @@ struct Items {
 fn items(input: &[u8]) -> Option<Items> {
     let reference = read(input).ok()?;
     let (scheme, authority) = reference.absolute()?;
-    let owned = |texts: &[&str]| texts.iter().map(std::string::ToString::to_string).collect();
-    let mut path: Vec<String> = reference.path.as_deref().map(owned).unwrap_or_default();
+    let text = |text: &[u8]| String::from_utf8(text.to_vec()).expect("UTF-8");
+    let owned = |texts: Texts| texts.iter().map(text).collect();
+    let mut path: Vec<String> = reference.path.map(owned).unwrap_or_default();
     if path == [""] {
         path.clear();
     }
@@ -512,13 +559,13 @@ fn items(input: &[u8]) -> Option<Items> {
             Scheme::Text(name) => Err(name.to_string()),
             Scheme::None => return None,
         },
-        host: match &authority.host {
+        host: match authority.host {
             Host::Address(address) => Ok(address.to_vec()),
             Host::Labels(labels) => Err(owned(labels)),
         },
         port: authority.port,
         path,
-        query: reference.query.as_deref().map(owned),
+        query: reference.query.map(owned),
         fragment: reference.fragment.map(str::to_string),
     })
 }

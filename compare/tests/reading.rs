@@ -2,9 +2,10 @@
 
 mod encode;
 
+use compare::generate::Generator;
 use compare::lines;
-use compare::reader::read;
-use encode::{array, bytes, text, texts};
+use compare::reader::{read, read_spans, Host, Opening, Span, MAX_INPUT, MAX_SEGMENTS, MAX_TEXTS};
+use encode::{array, bytes, filling, text, texts};
 
 /// A number of an accepted input is 0 and has no place.
 fn outcome(input: &[u8]) -> (u8, Option<usize>) {
@@ -145,7 +146,12 @@ fn reading_3_the_order_within_an_item() {
     refused("82 00 81 79 00 05", 3, 3);
     refused("82 00 81 79 01 00", 4, 3);
     refused("82 00 81 63 2E 2E", 1, 3);
-    refused("82 00 98 21", 4, 2);
+    refused(&format!("82 00 {}", over_the_segments()), 4, 2);
+}
+
+/// The head of a path with one segment too many.
+fn over_the_segments() -> String {
+    lines::hex(&encode::head(4, MAX_SEGMENTS + 1))
 }
 
 #[test]
@@ -445,10 +451,11 @@ fn a_bracket_after_a_fault_of_an_earlier_item() {
     refused("82 20 82 61 5D 61 5B", 6, 3);
     refused("82 20 83 61 61 1A 00010000 61 5B", 4, 5);
     // An input that is too long.
-    let path = texts(&[255, 255, 255, 246]);
-    assert_eq!(outcome_of(&[COAP, &bytes("81 61 5B"), &path]), at(4, 1024));
-    let path = texts(&[255, 255, 255, 245]);
-    assert_eq!(outcome_of(&[COAP, &bytes("81 61 5B"), &path]), at(6, 3));
+    // The outer array, the scheme and the authority have 5 bytes.
+    let authority = bytes("81 61 5B");
+    let outcome = |size| outcome_of(&[COAP, &authority, &texts(&filling(size - 5))]);
+    assert_eq!(outcome(MAX_INPUT + 1), at(4, MAX_INPUT));
+    assert_eq!(outcome(MAX_INPUT), at(6, 3));
 }
 
 #[test]
@@ -460,7 +467,8 @@ fn a_bracket_before_a_fault_of_a_later_item() {
         refused(&format!("82 20 82 61 5B {later}"), 6, 3);
         refused(&format!("82 20 83 61 61 61 5D {later}"), 6, 5);
     }
-    for later in ["", "F6", "F5", "98 21", "81 61 2E", "81 61 FF", "81 62 61"] {
+    let over = over_the_segments();
+    for later in ["", "F6", "F5", &over, "81 61 2E", "81 61 FF", "81 62 61"] {
         refused(&format!("83 20 81 61 5B {later}"), 6, 3);
         refused(&format!("83 20 82 62 61 5D 05 {later}"), 6, 3);
     }
@@ -565,17 +573,60 @@ fn utf8_at_the_ends_of_its_ranges() {
     }
 }
 
+/// A byte that is no character, and a character of two bytes, at each place of a segment of each length.
+#[test]
+fn utf8_at_every_place() {
+    let with = |length: usize, place: usize, bytes: &[u8]| {
+        let mut content = vec![b'a'; length];
+        content[place..place + bytes.len()].copy_from_slice(bytes);
+        outcome_of(&[TRUE, &array(&[encode::text_of(&content)])])
+    };
+    for length in 1..=255 {
+        for place in 0..length {
+            assert_eq!(with(length, place, &[0x80]), at(5, 3), "{length}, {place}");
+        }
+        for place in 1..length {
+            let outcome = with(length, place - 1, "\u{e9}".as_bytes());
+            assert_eq!(outcome, ACCEPTED, "{length}, {place}");
+        }
+    }
+}
+
 #[test]
 fn size_of_the_input() {
-    // Four segments of 255 bytes, each with a head of 2, an outer array and a path of one byte each; a discard of one.
-    let path = |last| texts(&[255, 255, 255, last]);
-    assert_eq!(array(&[TRUE.to_vec(), path(248)]).len(), 1024);
-    assert_eq!(outcome_of(&[TRUE, &path(247)]), ACCEPTED);
-    assert_eq!(outcome_of(&[TRUE, &path(248)]), ACCEPTED);
-    assert_eq!(outcome_of(&[TRUE, &path(249)]), at(4, 1024));
-    assert_eq!(outcome(&[0xFF; 1024]), at(2, 0));
-    assert_eq!(outcome(&[0xFF; 1025]), at(4, 1024));
-    assert_eq!(outcome(&[0x80; 5000]), at(4, 1024));
+    // The outer array and the discard have a byte each.
+    let sized = |size| array(&[TRUE.to_vec(), texts(&filling(size - 2))]);
+    assert_eq!(sized(MAX_INPUT).len(), MAX_INPUT);
+    assert_eq!(outcome(&sized(MAX_INPUT - 1)), ACCEPTED);
+    assert_eq!(outcome(&sized(MAX_INPUT)), ACCEPTED);
+    assert_eq!(outcome(&sized(MAX_INPUT + 1)), at(4, MAX_INPUT));
+    assert_eq!(outcome(&[0x00; MAX_INPUT]), at(2, 0));
+    assert_eq!(outcome(&[0xFF; MAX_INPUT]), at(2, 0));
+    assert_eq!(outcome(&[0xFF; MAX_INPUT + 1]), at(4, MAX_INPUT));
+    assert_eq!(outcome(&[0x80; 2 * MAX_INPUT]), at(4, MAX_INPUT));
+}
+
+/// The most segments in an input of the largest size, and one more of each.
+#[test]
+fn both_sizes_at_once() {
+    // Before the segments 4 bytes; 10 of 26 bytes with their heads, then those of 24, and the last one with a head of 2.
+    let sized = |count: usize, size: usize| {
+        let last = size - 4 - 10 * 26 - (count - 11) * 24 - 2;
+        let lengths = [vec![24; 10], vec![23; count - 11], vec![last]].concat();
+        array(&[TRUE.to_vec(), texts(&lengths)])
+    };
+    assert_eq!(sized(MAX_SEGMENTS, MAX_INPUT).len(), MAX_INPUT);
+    assert_eq!(outcome(&sized(MAX_SEGMENTS, MAX_INPUT - 1)), ACCEPTED);
+    assert_eq!(outcome(&sized(MAX_SEGMENTS, MAX_INPUT)), ACCEPTED);
+    assert_eq!(
+        outcome(&sized(MAX_SEGMENTS, MAX_INPUT + 1)),
+        at(4, MAX_INPUT)
+    );
+    assert_eq!(outcome(&sized(MAX_SEGMENTS + 1, MAX_INPUT)), at(4, 2));
+    assert_eq!(
+        outcome(&sized(MAX_SEGMENTS + 1, MAX_INPUT + 1)),
+        at(4, MAX_INPUT)
+    );
 }
 
 #[test]
@@ -583,9 +634,9 @@ fn sizes_of_the_path() {
     for (count, expected) in [
         (0, ACCEPTED),
         (1, ACCEPTED),
-        (31, ACCEPTED),
-        (32, ACCEPTED),
-        (33, at(4, 2)),
+        (MAX_SEGMENTS - 1, ACCEPTED),
+        (MAX_SEGMENTS, ACCEPTED),
+        (MAX_SEGMENTS + 1, at(4, 2)),
     ] {
         assert_eq!(
             outcome_of(&[TRUE, &texts(&vec![1; count])]),
@@ -804,4 +855,66 @@ fn tail_is_last_and_at_the_first_byte_after() {
     refused("81 F5 FF FF", 7, 2);
     refused("82 00 81 61 61 00", 7, 5);
     refused("82 00 81 62 2E 2E 00", 6, 3);
+}
+
+/// The spans of an accepted input are those of its texts in order, and no others are stored.
+#[test]
+fn spans_of_texts() {
+    const NONE: Span = Span {
+        start: usize::MAX,
+        length: usize::MAX,
+    };
+    let inputs = Generator::new(8).take(20_000).filter_map(|request| {
+        let is_request = !lines::answer(&request).starts_with('?');
+        let word = request.strip_prefix(b"read ").filter(|_| is_request)?;
+        Some(bytes(str::from_utf8(word).ok()?))
+    });
+    let mut most = 0;
+    for input in inputs {
+        let mut spans = [NONE; MAX_TEXTS];
+        let outcome = read_spans(&input, &mut spans);
+        assert_eq!(outcome, read(&input));
+        let Ok(reference) = outcome else { continue };
+        let labels = match reference.opening {
+            Opening::Authority(_, authority) => match authority.host {
+                Host::Labels(labels) => Some(labels),
+                Host::Address(_) => None,
+            },
+            Opening::Discard(_) => None,
+        };
+        let lists = [labels, reference.path, reference.query];
+        let texts: Vec<&[u8]> = lists.into_iter().flatten().flatten().collect();
+        let (stored, others) = spans.split_at(texts.len());
+        for (span, text) in stored.iter().zip(&texts) {
+            let part = &input[span.start..span.start + span.length];
+            assert_eq!(part.as_ptr_range(), text.as_ptr_range(), "{input:02x?}");
+        }
+        assert!(others.iter().all(|span| *span == NONE), "{input:02x?}");
+        most = most.max(texts.len());
+    }
+    assert!(most >= MAX_SEGMENTS, "{most}");
+}
+
+/// A list of texts: its length, its contents and its items, and those of its first texts.
+#[test]
+fn lists_of_texts() {
+    let lengths = [0, 1, 23, 24, 255, 0, 255];
+    for count in 0..=lengths.len() {
+        let input = array(&[TRUE.to_vec(), texts(&lengths[..count])]);
+        let path = read(&input).ok().and_then(|reference| reference.path);
+        let path = path.expect("a path");
+        assert_eq!(path.len(), count);
+        assert_eq!(path.is_empty(), count == 0);
+        assert_eq!(path.is_one_empty(), count == 1);
+        assert_eq!(path.items(), &texts(&lengths[..count])[1..]);
+        assert!(path
+            .iter()
+            .map(<[u8]>::len)
+            .eq(lengths[..count].iter().copied()));
+        for first in 0..=count {
+            let prefix = path.prefix(first);
+            assert_eq!(prefix.len(), first);
+            assert_eq!(prefix.items(), &texts(&lengths[..first])[1..]);
+        }
+    }
 }

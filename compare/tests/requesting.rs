@@ -10,7 +10,8 @@ use compare::generate::Generator;
 use compare::lines;
 use compare::meant::{meant, words, Meant};
 use compare::options::{options, ENOUGH};
-use encode::{array, bytes, head, text, text_of, texts};
+use compare::reader::{MAX_INPUT, MAX_PARAMETERS, MAX_SEGMENTS};
+use encode::{array, bytes, filling, head, text, text_of, texts};
 use not_absolute::NOT_ABSOLUTE;
 use std::net::{Ipv4Addr, Ipv6Addr};
 use told::told;
@@ -345,7 +346,8 @@ fn refusals_in_their_order() {
             assert_eq!(asked(&input, &none, 5683), Err((12, 0)), "{hex}");
         }
     }
-    assert_eq!(asked(&[0x80; 1025], &[0; 4], 0), Err((4, 1024)));
+    let long = [0x80; MAX_INPUT + 1];
+    assert_eq!(asked(&long, &[0; 4], 0), Err((4, MAX_INPUT)));
 }
 
 #[test]
@@ -394,25 +396,28 @@ fn rooms() {
 fn the_largest_requests() {
     let many = [
         bytes("84 20 82 61 68 00"),
-        texts(&[13; 32]),
-        texts(&[13; 16]),
+        texts(&[13; MAX_SEGMENTS]),
+        texts(&[13; MAX_PARAMETERS]),
     ]
     .concat();
     let options = parsed(&asked(&many, &[0; 4], 1).expect("options")).expect("options");
-    assert_eq!(options.len(), 2 + 32 + 16);
-    let long = [bytes("83 20 81 61 68"), texts(&[255, 255, 255, 245])].concat();
-    assert_eq!(long.len(), 1024);
-    let length = asked(&long, &[0; 4], 5683).expect("options").len();
-    assert_eq!(length, 2 + 4 * 2 + 3 * 255 + 245);
-    let over = [bytes("83 20 81 61 68"), texts(&[255, 255, 255, 246])].concat();
-    assert_eq!(asked(&over, &[0; 4], 5683), Err((4, 1024)));
+    assert_eq!(options.len(), 2 + MAX_SEGMENTS + MAX_PARAMETERS);
+    let long = |lengths: &[usize]| [bytes("83 20 81 61 68"), texts(lengths)].concat();
+    let lengths = filling(MAX_INPUT - 5);
+    assert_eq!(long(&lengths).len(), MAX_INPUT);
+    let length = asked(&long(&lengths), &[0; 4], 5683).map(|options| options.len());
+    // Each option of the path has a head of 2.
+    let path: usize = lengths.iter().map(|length| 2 + length).sum();
+    assert_eq!(length, Ok(2 + path));
+    let over = long(&filling(MAX_INPUT - 4));
+    assert_eq!(asked(&over, &[0; 4], 5683), Err((4, MAX_INPUT)));
     // A text of 13 to 23 bytes has a head of one byte, and as an option one of two. The port is left off, and is an option.
     let opening = [bytes("84 20 81 50"), vec![0xFF; 16]].concat();
-    let path = texts(&[22; 32]);
-    let query = array(&vec![text(15); 16]);
+    let path = texts(&[22; MAX_SEGMENTS]);
+    let query = array(&vec![text(15); MAX_PARAMETERS]);
     let input = [opening, path, query].concat();
     let length = asked(&input, &[0; 16], 1).expect("options").len();
-    assert_eq!(length, 43 + 3 + 32 * 24 + 16 * 17);
+    assert_eq!(length, 43 + 3 + MAX_SEGMENTS * 24 + MAX_PARAMETERS * 17);
     assert!(length < ENOUGH);
 }
 
@@ -521,7 +526,7 @@ fn what_was_written_is_what_is_meant() {
         }
     }
     assert!(counts[0] > 7000 && counts[1] > 4000, "{counts:?}");
-    assert!((1025..ENOUGH).contains(&longest), "{longest}");
+    assert!((MAX_INPUT + 1..ENOUGH).contains(&longest), "{longest}");
 }
 
 /// Links with all of these hosts, ports, paths and queries, to all of these destinations.

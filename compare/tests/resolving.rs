@@ -5,16 +5,17 @@ mod encode;
 mod not_absolute;
 mod told;
 
+use compare::reader::{MAX_INPUT, MAX_SEGMENTS};
 use compare::refusal::Refusal;
 use compare::resolver::resolve;
 use compare::views::authority;
-use encode::{bytes, text, texts};
+use encode::{bytes, filling, head, text, texts};
 use not_absolute::NOT_ABSOLUTE;
 use told::told;
 
 /// What is resolved, or the number and the place, with room enough.
 fn resolved(base: &[u8], reference: &[u8]) -> Result<Vec<u8>, (u8, usize)> {
-    let mut room = [7; 1024];
+    let mut room = [7; MAX_INPUT];
     let length = resolve(base, reference, &mut room).map_err(told)?;
     Ok(room[..length].to_vec())
 }
@@ -201,16 +202,29 @@ fn discards() {
 
 #[test]
 fn discards_of_a_full_path() {
-    let base = base_of(&[1; 32]);
-    for (discard, left) in [(24, 8), (31, 1), (32, 0), (33, 0), (64, 0), (127, 0)] {
-        let expected = match left {
+    for (segments, discard) in [
+        (MAX_SEGMENTS, 24),
+        (MAX_SEGMENTS, 126),
+        (MAX_SEGMENTS, 127),
+        (128, 127),
+        (127, 126),
+        (127, 127),
+        (126, 127),
+        (32, 31),
+        (32, 32),
+        (32, 33),
+        (32, 64),
+        (32, 127),
+    ] {
+        let expected = match segments.saturating_sub(discard) {
             0 => bytes(&with_path("")),
-            _ => base_of(&vec![1; left]),
+            left => base_of(&vec![1; left]),
         };
+        let reference = [vec![0x81], head(0, discard)].concat();
         assert_eq!(
-            resolved(&base, &[0x81, 0x18, discard]),
+            resolved(&base_of(&vec![1; segments]), &reference),
             Ok(expected),
-            "{discard}"
+            "{segments} - {discard}"
         );
     }
 }
@@ -233,33 +247,37 @@ fn the_base_is_judged_first_and_always() {
             refused(base, reference, 8, place);
         }
     }
-    let long = base_of(&[255, 255, 255, 246]);
-    assert_eq!(long.len(), 1025);
-    assert_eq!(resolved(&long, &bytes(absolute)), Err((8, 1024)));
-    assert_eq!(resolved(&long, &bytes("81 F5")), Err((8, 1024)));
-    // A fault near the end of a base.
-    let late = base_of(&[255, 255, 255, 245]);
-    assert_eq!(resolved(&late[..1023], &[0x80]), Err((8, 777)));
+    let long = base_sized(MAX_INPUT + 1);
+    assert_eq!(resolved(&long, &bytes(absolute)), Err((8, MAX_INPUT)));
+    assert_eq!(resolved(&long, &bytes("81 F5")), Err((8, MAX_INPUT)));
+    // A fault near the end of a base: its last segment is cut.
+    let lengths = filling(MAX_INPUT - 5);
+    let late = base_of(&lengths);
+    let last = late.len() - text(lengths[lengths.len() - 1]).len();
+    assert_eq!(resolved(&late[..MAX_INPUT - 1], &[0x80]), Err((8, last)));
 }
 
 #[test]
 fn the_references_refusals_come_before_those_of_the_result() {
-    let base = base_of(&[1; 32]);
-    // 33 segments.
+    let base = base_of(&[1; MAX_SEGMENTS]);
+    // One segment too many.
     assert_eq!(resolved(&base, &bytes("82 00 81 61 61")), Err((9, 0)));
     for (reference, number, place) in [
         ("82 00 81 61", 1, 3),
         ("82 00 82 60", 1, 4),
         ("82 00 81 00", 2, 3),
         ("82 00 81 78 01 61", 3, 3),
-        ("82 00 98 21", 4, 2),
+        ("82 00 81 79 01 00", 4, 3),
         ("82 00 81 61 FF", 5, 3),
         ("82 00 82 60 61 2E", 6, 4),
         ("82 00 81 61 61 00", 7, 5),
     ] {
         assert_eq!(resolved(&base, &bytes(reference)), Err((number, place)));
     }
-    assert_eq!(resolved(&base, &[0x80; 1025]), Err((4, 1024)));
+    let over = appending(0, &[1; MAX_SEGMENTS + 1]);
+    assert_eq!(resolved(&base, &over), Err((4, 2)));
+    let long = [0x80; MAX_INPUT + 1];
+    assert_eq!(resolved(&base, &long), Err((4, MAX_INPUT)));
 }
 
 /// `coap://h` with a path of segments of these lengths; 5 bytes and the path.
@@ -267,111 +285,128 @@ fn base_of(lengths: &[usize]) -> Vec<u8> {
     [bytes("83 20 81 61 68"), texts(lengths)].concat()
 }
 
-/// A reference that discards `discard` segments and appends a path of texts of these lengths; 2 bytes and the path.
-fn appending(discard: u8, lengths: &[usize]) -> Vec<u8> {
-    [vec![0x82], vec![discard], texts(lengths)].concat()
+/// `coap://h` with a path, of so many bytes.
+fn base_sized(size: usize) -> Vec<u8> {
+    base_of(&filling(size - 5))
+}
+
+/// A reference that discards `discard` segments and appends a path of texts of these lengths.
+fn appending(discard: usize, lengths: &[usize]) -> Vec<u8> {
+    [vec![0x82], head(0, discard), texts(lengths)].concat()
 }
 
 #[test]
 fn most_segments() {
-    for (of_base, discard, appended, expected) in [
-        (31, 0, 1, Ok(32)),
-        (31, 0, 2, Err((9, 0))),
-        (32, 0, 0, Ok(32)),
-        (32, 0, 1, Err((9, 0))),
-        (32, 1, 1, Ok(32)),
-        (32, 1, 2, Err((9, 0))),
-        (32, 16, 16, Ok(32)),
-        (32, 16, 17, Err((9, 0))),
-        (17, 0, 16, Err((9, 0))),
-        (16, 0, 16, Ok(32)),
-        (1, 0, 31, Ok(32)),
-        (1, 0, 32, Err((9, 0))),
-        (1, 1, 32, Ok(32)),
-        (0, 0, 32, Ok(32)),
-        (32, 0, 32, Err((9, 0))),
+    const MOST: usize = MAX_SEGMENTS;
+    let most = base_of(&[1; MOST]);
+    for (of_base, discard, appended) in [
+        (MOST - 1, 0, 1),
+        (MOST, 0, 0),
+        (MOST, 1, 1),
+        (MOST, 16, 16),
+        (MOST, 127, 127),
+        (MOST - 1, 127, 128),
+        (MOST / 2, 0, MOST - MOST / 2),
+        (1, 0, MOST - 1),
+        (1, 1, MOST),
+        (0, 0, MOST),
+        (0, 127, MOST),
     ] {
-        assert_eq!(
-            resolved(
-                &base_of(&vec![1; of_base]),
-                &appending(discard, &vec![1; appended])
-            ),
-            expected.map(|count| base_of(&vec![1; count])),
-            "{of_base} - {discard} + {appended}"
-        );
+        let base = base_of(&vec![1; of_base]);
+        let outcome = resolved(&base, &appending(discard, &vec![1; appended]));
+        let pair = format!("{of_base} - {discard} + {appended}");
+        assert_eq!(outcome.as_ref(), Ok(&most), "{pair}");
+        // One more.
+        if appended < MOST {
+            let outcome = resolved(&base, &appending(discard, &vec![1; appended + 1]));
+            assert_eq!(outcome, Err((9, 0)), "{pair}");
+        }
     }
-    let all = [vec![0x82, 0xF5], texts(&[1; 32])].concat();
-    assert_eq!(resolved(&base_of(&[1; 32]), &all), Ok(base_of(&[1; 32])));
+    let as_many = appending(0, &[1; MOST]);
+    assert_eq!(resolved(&most, &as_many), Err((9, 0)));
+    let all = [vec![0x82, 0xF5], texts(&[1; MOST])].concat();
+    assert_eq!(resolved(&most, &all).as_ref(), Ok(&most));
     // A lone empty segment of the base is not counted; an empty one that is appended is.
-    let appended = appending(0, &[1; 32]);
-    assert_eq!(resolved(&base_of(&[0]), &appended), Ok(base_of(&[1; 32])));
-    assert_eq!(
-        resolved(&base_of(&[1; 32]), &appending(0, &[0])),
-        Err((9, 0))
-    );
+    assert_eq!(resolved(&base_of(&[0]), &as_many).as_ref(), Ok(&most));
+    assert_eq!(resolved(&most, &appending(0, &[0])), Err((9, 0)));
 }
 
 #[test]
 fn longest_result() {
-    // 6 bytes, 3 segments of 257 bytes, and one with a head of 2.
-    let result = |last| base_of(&[255, 255, 255, last]);
-    assert_eq!(result(245).len(), 1024);
-    let base = base_of(&[255, 255]);
-    for (last, expected) in [
-        (244, Ok(result(244))),
-        (245, Ok(result(245))),
-        (246, Err((9, 0))),
-        (255, Err((9, 0))),
-    ] {
-        assert_eq!(resolved(&base, &appending(0, &[255, last])), expected);
+    for size in [MAX_INPUT - 1, MAX_INPUT, MAX_INPUT + 1, MAX_INPUT + 2] {
+        let lengths = filling(size - 5);
+        for kept in [0, 1, lengths.len() / 2, lengths.len() - 1] {
+            let (kept, appended) = lengths.split_at(kept);
+            let outcome = resolved(&base_of(kept), &appending(0, appended));
+            let expected = match size {
+                0..=MAX_INPUT => Ok(base_of(&lengths)),
+                _ => Err((9, 0)),
+            };
+            assert_eq!(outcome, expected, "{size}");
+        }
     }
     // A fragment of 5, its head and the null before it are 7 bytes more.
     let fragment = bytes("84 00 F6 F6 65 6162636465");
-    let longest = resolved(&result(238), &fragment).map(|result| result.len());
-    assert_eq!(longest, Ok(1024));
-    assert_eq!(resolved(&result(239), &fragment), Err((9, 0)));
-    assert_eq!(
-        resolved(&result(245), &bytes("84 00 F6 F6 60")),
-        Err((9, 0))
-    );
+    let longest = resolved(&base_sized(MAX_INPUT - 7), &fragment).map(|result| result.len());
+    assert_eq!(longest, Ok(MAX_INPUT));
+    assert_eq!(resolved(&base_sized(MAX_INPUT - 6), &fragment), Err((9, 0)));
+    let empty = bytes("84 00 F6 F6 60");
+    assert_eq!(resolved(&base_sized(MAX_INPUT), &empty), Err((9, 0)));
+}
+
+/// A result of the most segments and the largest size.
+#[test]
+fn both_sizes_at_once() {
+    // Before the segments 7 bytes; 10 of 26 bytes with their heads, then those of 24, and the last one with a head of 2.
+    let kept = [24; 10];
+    let longest = MAX_INPUT - 7 - 10 * 26 - (MAX_SEGMENTS - 11) * 24 - 2;
+    let appended = |last| [vec![23; MAX_SEGMENTS - 11], vec![last]].concat();
+    let resolved = |last| resolved(&base_of(&kept), &appending(0, &appended(last)));
+    let result = base_of(&[&kept, &appended(longest)[..]].concat());
+    assert_eq!(result.len(), MAX_INPUT);
+    assert_eq!(resolved(longest), Ok(result));
+    assert_eq!(resolved(longest + 1), Err((9, 0)));
 }
 
 #[test]
 fn what_falls_away_has_no_length() {
-    let three = base_of(&[255, 255, 255]);
-    let discarded = base_of(&[255, 255, 255, 245]);
-    assert_eq!(discarded.len(), 1024);
-    assert_eq!(resolved(&discarded, &appending(1, &[])), Ok(three.clone()));
-    assert_eq!(resolved(&discarded, &appending(1, &[246])), Err((9, 0)));
+    let lengths = filling(MAX_INPUT - 5);
+    let (&last, others) = lengths.split_last().expect("segments");
+    let rest = base_of(others);
+    let discarded = base_of(&lengths);
+    assert_eq!(resolved(&discarded, &appending(1, &[])), Ok(rest.clone()));
+    let longer = appending(1, &[last + 1]);
+    assert_eq!(resolved(&discarded, &longer), Err((9, 0)));
     // The fragment of the base.
-    let path = texts(&[255, 255, 255]);
-    let base = [bytes("85 20 81 61 68"), path, vec![0xF6], text(244)].concat();
-    assert_eq!(base.len(), 1024);
-    assert_eq!(resolved(&base, &[0x80]), Ok(three));
-    let longest = resolved(&base, &appending(0, &[245])).map(|result| result.len());
-    assert_eq!(longest, Ok(1024));
-    assert_eq!(resolved(&base, &appending(0, &[246])), Err((9, 0)));
+    let after = [vec![0xF6], text(last - 1)].concat();
+    let base = [bytes("85 20 81 61 68"), texts(others), after].concat();
+    assert_eq!(base.len(), MAX_INPUT);
+    assert_eq!(resolved(&base, &[0x80]), Ok(rest));
+    let longest = resolved(&base, &appending(0, &[last])).map(|result| result.len());
+    assert_eq!(longest, Ok(MAX_INPUT));
+    assert_eq!(resolved(&base, &appending(0, &[last + 1])), Err((9, 0)));
 }
 
 /// A scheme text of the base before a reference of nearly the largest size.
 #[test]
 fn longest_result_by_the_scheme() {
     let base = bytes("82 64 68747470 81 61 68");
-    let reference = |last: usize| {
-        let path = texts(&[255, 255, 255, last]);
+    let reference = |size: usize| {
+        let path = texts(&filling(size - 5));
         [bytes("83 F6 81 61 69"), path].concat()
     };
-    assert_eq!(reference(241).len(), 1020);
-    let longest = resolved(&base, &reference(241)).map(|result| result.len());
-    assert_eq!(longest, Ok(1024));
-    assert_eq!(resolved(&base, &reference(242)), Err((9, 0)));
-    assert_eq!(resolved(&base, &reference(245)), Err((9, 0)));
-    assert_eq!(resolved(&base, &reference(246)), Err((4, 1024)));
+    // The scheme has 4 bytes more than the null in its place.
+    let longest = resolved(&base, &reference(MAX_INPUT - 4)).map(|result| result.len());
+    assert_eq!(longest, Ok(MAX_INPUT));
+    let outcome = |size| resolved(&base, &reference(size));
+    assert_eq!(outcome(MAX_INPUT - 3), Err((9, 0)));
+    assert_eq!(outcome(MAX_INPUT), Err((9, 0)));
+    assert_eq!(outcome(MAX_INPUT + 1), Err((4, MAX_INPUT)));
 }
 
 #[test]
 fn over_a_size_comes_before_the_room() {
-    let base = base_of(&[1; 32]);
+    let base = base_of(&[1; MAX_SEGMENTS]);
     let mut room = [7; 4];
     let mut outcome = |base: &[u8], reference: &[u8]| {
         let outcome = resolve(base, reference, &mut room);
@@ -379,8 +414,8 @@ fn over_a_size_comes_before_the_room() {
     };
     assert_eq!(outcome(&base, &appending(0, &[1])), Err((9, 0)));
     assert_eq!(outcome(&base, &appending(1, &[1])), Err((10, 0)));
-    let long = base_of(&[255, 255, 255]);
-    assert_eq!(outcome(&long, &appending(0, &[255])), Err((9, 0)));
+    let long = base_sized(MAX_INPUT);
+    assert_eq!(outcome(&long, &appending(0, &[0])), Err((9, 0)));
     assert_eq!(room, [7; 4]);
 }
 
@@ -403,11 +438,11 @@ fn rooms() {
         assert!(resolve(&bytes(base), &bytes(reference), &mut room).is_err());
         assert_eq!(room, [7; 12]);
     }
-    let mut room = [7; 1030];
-    let longest = base_of(&[255, 255, 255, 245]);
-    assert_eq!(resolve(&longest, &[0x80], &mut room), Ok(1024));
-    assert_eq!(room[..1024], longest);
-    assert_eq!(room[1024..], [7; 6]);
+    let mut room = [7; MAX_INPUT + 6];
+    let longest = base_sized(MAX_INPUT);
+    assert_eq!(resolve(&longest, &[0x80], &mut room), Ok(MAX_INPUT));
+    assert_eq!(room[..MAX_INPUT], longest);
+    assert_eq!(room[MAX_INPUT..], [7; 6]);
 }
 
 /// The view is that part of the input.
@@ -467,7 +502,7 @@ fn an_authority_that_is_not_shown() {
     ] {
         refused(&bytes(reference), &bytes(FULL), number, place);
     }
-    let long = base_of(&[255, 255, 255, 246]);
-    refused(&bytes(own), &long, 8, 1024);
-    refused(&[0x80; 1025], &bytes(FULL), 4, 1024);
+    let long = base_sized(MAX_INPUT + 1);
+    refused(&bytes(own), &long, 8, MAX_INPUT);
+    refused(&[0x80; MAX_INPUT + 1], &bytes(FULL), 4, MAX_INPUT);
 }

@@ -4,7 +4,7 @@ mod told;
 
 use compare::generate::Generator;
 use compare::lines;
-use compare::reader::read;
+use compare::reader::{read, MAX_INPUT, MAX_SEGMENTS};
 use compare::writer::{write, Authority, Components, Discard, Host, Opening, Scheme, Span};
 use told::told;
 
@@ -41,7 +41,7 @@ fn labels(labels: &[Span], port: Option<u64>) -> Option<Authority<'_>> {
 
 /// What is written from `lent`, or the number and the place, with room enough.
 fn written_from(components: &Components, lent: &[u8]) -> Result<Vec<u8>, (u8, usize)> {
-    let mut room = [7; 1024];
+    let mut room = [7; MAX_INPUT];
     let length = write(components, lent, &mut room).map_err(told)?;
     Ok(room[..length].to_vec())
 }
@@ -136,8 +136,8 @@ fn paths_queries_fragments() {
         b"\x84\x01\x81\x61a\xF6\x61a",
     );
     refused(&with(None, Some(&[]), None), 4);
-    assert!(written(&with(Some(&[A; 32]), None, None)).is_ok());
-    refused(&with(Some(&[A; 33]), None, None), 4);
+    assert!(written(&with(Some(&[A; MAX_SEGMENTS]), None, None)).is_ok());
+    refused(&with(Some(&[A; MAX_SEGMENTS + 1]), None, None), 4);
     assert!(written(&with(None, Some(&[A; 16]), None)).is_ok());
     refused(&with(None, Some(&[A; 17]), None), 4);
     // A discard 0 is written where something follows it.
@@ -180,7 +180,7 @@ fn a_count_or_a_span_comes_before_the_reader() {
     refused(&bad, 6);
     refused(&full(Scheme::Number(2), labels(&[A; 9], None)), 4);
     let segments = Components {
-        path: Some(&[A; 33]),
+        path: Some(&[A; MAX_SEGMENTS + 1]),
         ..bad
     };
     refused(&segments, 4);
@@ -199,24 +199,26 @@ fn a_count_or_a_span_comes_before_the_reader() {
 #[test]
 fn the_longest_encoding() {
     let lent = [b'a'; 255];
-    let with = |length| {
-        let path = [span(0, 255), span(0, 255), span(0, 255), span(0, length)];
+    // A discard and a path in 3 bytes, texts of 257 and one with a head of 2.
+    let sized = |size: usize| {
+        let left = size - 3;
+        let mut path = vec![span(0, 255); left / 257];
+        path.push(span(0, left % 257 - 2));
         let components = Components {
             path: Some(&path),
             ..DISCARD
         };
         written_from(&components, &lent).map(|encoding| encoding.len())
     };
-    // 3 bytes, 3 texts of 257 and a head of 2.
-    assert_eq!(with(247), Ok(1023));
-    assert_eq!(with(248), Ok(1024));
-    assert_eq!(with(249), Err((4, 0)));
+    // Also around the length at which the encoding is made in a longer array.
+    for size in [1022, 1023, 1024, 1025, 1026, MAX_INPUT - 1, MAX_INPUT] {
+        assert_eq!(sized(size), Ok(size));
+    }
+    assert_eq!(sized(MAX_INPUT + 1), Err((4, 0)));
     // Over the size is 4, though the reader would say 5.
-    let path = [span(0, 1); 5];
+    let path = vec![span(0, 255); MAX_INPUT / 255 + 1];
     let broken = Components {
         path: Some(&path),
-        fragment: Some(span(1, 250)),
-        query: Some(&[span(1, 250); 4]),
         ..DISCARD
     };
     let lent = [0xFF; 255];

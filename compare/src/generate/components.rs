@@ -25,12 +25,12 @@ pub fn request(random: &mut Random) -> String {
 fn sayable(random: &mut Random) -> (Made, Vec<Part>) {
     loop {
         let mut made = match random.below(100) {
-            0..35 => reference::reference(random, 0),
-            35..88 => {
+            0..39 => reference::reference(random, 0),
+            39..92 => {
                 let slips = random.pick(&[1, 2]);
                 reference::reference(random, slips)
             }
-            88..90 => reference::bracketed(random),
+            92..94 => reference::bracketed(random),
             _ => reference::around_longest(random),
         };
         if random.chance(8) {
@@ -200,10 +200,11 @@ impl Lent {
 
     /// The first place of a text.
     fn place(&self, text: &[u8]) -> Option<usize> {
-        match text {
-            [] => Some(0),
-            _ => self.bytes.windows(text.len()).position(|part| part == text),
-        }
+        let Some(first) = text.first() else {
+            return Some(0);
+        };
+        let mut parts = self.bytes.windows(text.len());
+        parts.position(|part| part[0] == *first && part == text)
     }
 
     /// A span inside, mostly a short one.

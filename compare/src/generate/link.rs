@@ -273,7 +273,7 @@ fn character(random: &mut Random, byte: u8, bytes: Bytes) -> Text {
     }
 }
 
-/// An absolute reference of 1,022 to 1,026 bytes, valid but for its length.
+/// An absolute reference of about the largest size, valid but for its length.
 pub fn around_longest(random: &mut Random) -> Vec<u8> {
     let mut maker = Maker::brief(random);
     let mut items = vec![maker.set_scheme(), maker.authority()];

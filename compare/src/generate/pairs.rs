@@ -64,7 +64,7 @@ fn pair(random: &mut Random) -> Pair {
             base: reference::bracketed(random).encoded.bytes,
             ..small(random)
         },
-        88..94 => around_most_segments(random),
+        88..95 => around_most_segments(random),
         _ => around_longest(random),
     }
 }
@@ -87,17 +87,20 @@ fn discarding(random: &mut Random) -> Pair {
     }
 }
 
+/// The largest number of a discard.
+const MAX_DISCARD: u64 = 127;
+
 fn discard(random: &mut Random, segments: usize) -> Item {
     let segments = segments as u64;
     match random.below(10) {
         0 => Item::True,
         1..4 => Item::Number(0),
         4 => Item::Number(1),
-        5 => Item::Number(segments.saturating_sub(1)),
-        6 => Item::Number(segments),
-        7 => Item::Number(segments + 1),
-        8 => Item::Number(127),
-        _ => Item::Number(random.below(128)),
+        5 => Item::Number(segments.saturating_sub(1).min(MAX_DISCARD)),
+        6 => Item::Number(segments.min(MAX_DISCARD)),
+        7 => Item::Number((segments + 1).min(MAX_DISCARD)),
+        8 => Item::Number(MAX_DISCARD),
+        _ => Item::Number(random.below(MAX_DISCARD + 1)),
     }
 }
 
@@ -159,10 +162,13 @@ fn small_rest(maker: &mut Maker, items: &mut Vec<Item>) -> usize {
 
 /// A result with about as many segments as a path may have.
 fn around_most_segments(random: &mut Random) -> Pair {
-    let all: usize = random.pick(&[31, 32, 32, 33, 33, 34, 48, 64]);
-    let least = all.saturating_sub(MAX_SEGMENTS);
-    let kept = least + random.index(MAX_SEGMENTS - least + 1).min(all - least);
-    let dropped = random.index(MAX_SEGMENTS - kept + 1);
+    const MOST: usize = MAX_SEGMENTS;
+    let near = [MOST - 1, MOST, MOST, MOST + 1, MOST + 1, MOST + 2];
+    let any = random.index(2 * MOST + 1);
+    let all = random.pick(&[&near[..], &[any, 2 * MOST]].concat());
+    let least = all.saturating_sub(MOST);
+    let kept = least + random.index(MOST - least + 1).min(all - least);
+    let dropped = random.index((MOST - kept).min(MAX_DISCARD as usize) + 1);
     let mut maker = Maker::brief(random);
     let base = vec![
         maker.set_scheme(),

@@ -43,8 +43,8 @@ fn printed(random: &mut Random) -> Vec<u8> {
             encoded.bytes
         }
         50..70 => reference::absolute(random, 0).encoded.bytes,
-        70..74 => around_longest(random),
-        74..86 => input(random).bytes,
+        70..73 => around_longest(random),
+        73..86 => input(random).bytes,
         _ => faulty(random),
     }
 }

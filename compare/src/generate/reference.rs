@@ -1,7 +1,8 @@
 //! Makes references: mostly valid ones, with sizes at and around every limit, and with a fault where a slip is allowed.
 
-use super::item::{Encoded, Item};
+use super::item::{head, Encoded, Item};
 use super::random::Random;
+use crate::reader::{MAX_INPUT, MAX_SEGMENTS};
 use std::ops::RangeInclusive;
 
 /// A reference, its items, and how many segments its path has.
@@ -22,7 +23,7 @@ impl Made {
 }
 
 /// A reference with at most `slips` faults, each at a random place. Without slips it is refused only where its labels together are too
-/// long or look like an IPv4 address, or where it is longer than an input may be; that is seldom.
+/// long or look like an IPv4 address; that is seldom.
 pub fn reference(random: &mut Random, slips: u64) -> Made {
     let mut maker = Maker::new(random, slips);
     let opening = maker.opening();
@@ -41,7 +42,7 @@ pub fn discarding(random: &mut Random, discard: Item) -> Made {
     Maker::new(random, 0).reference(vec![discard])
 }
 
-/// A reference of 1,022 to 1,026 bytes, valid but for its length.
+/// A reference of about the largest size, valid but for its length.
 pub fn around_longest(random: &mut Random) -> Made {
     let mut maker = Maker::brief(random);
     let mut items = maker.opening();
@@ -125,6 +126,9 @@ fn segments_of(path: &Item) -> usize {
         _ => 0,
     }
 }
+
+/// The size of the longest encoded text.
+const LONGEST_TEXT: usize = 257;
 
 /// Lengths at which a head grows or a limit lies.
 const LENGTHS: [usize; 16] = [
@@ -217,7 +221,7 @@ impl<'r> Maker<'r> {
         let room = match random.below(100) {
             0..45 => 40,
             45..97 => 900,
-            _ => 4000,
+            _ => MAX_INPUT,
         };
         Maker {
             random,
@@ -286,10 +290,13 @@ impl<'r> Maker<'r> {
         }
     }
 
-    /// A path, and items after it, that make with this opening an encoding of 1,022 to 1,026 bytes.
+    /// A path, and items after it, that make with this opening an encoding of about the largest size: two bytes less to two more.
     pub fn around_longest(&mut self, opening: &[Item]) -> (Vec<Item>, Vec<Item>) {
-        let lengths = [1022, 1023, 1023, 1024, 1024, 1025, 1025, 1026];
-        let length = self.random.pick(&lengths);
+        const MOST: usize = MAX_INPUT;
+        let near = [MOST - 1, MOST, MOST + 1];
+        let length = self
+            .random
+            .pick(&[&near[..], &near, &[MOST - 2, MOST + 2]].concat());
         let after = match self.random.below(3) {
             0 => vec![],
             1 => vec![Item::Array(vec![Item::Text(vec![b'q'; 3])])],
@@ -299,27 +306,43 @@ impl<'r> Maker<'r> {
             .iter()
             .chain(&after)
             .map(|item| item.encoded().bytes.len());
-        // Less the heads of the outer array and of the path.
-        let left = length - 2 - others.sum::<usize>();
+        // Less the head of the outer array.
+        let left = length - 1 - others.sum::<usize>();
         (self.filling(left), after)
     }
 
-    /// Fewer than 24 texts whose encodings have `left` bytes together.
-    fn filling(&mut self, mut left: usize) -> Vec<Item> {
+    /// Texts that make, with the head of their array, `left` bytes: mostly few, some of them as many as a path may have.
+    fn filling(&mut self, left: usize) -> Vec<Item> {
+        let least = left.div_ceil(LONGEST_TEXT);
+        let few = least + self.random.index(24 - least);
+        let many = 24 + self.random.index(MAX_SEGMENTS - 23);
+        let count = self.random.pick(&[few, few, few, many, MAX_SEGMENTS]);
+        let mut left = left - head(4, count as u64).len();
         let mut texts = Vec::new();
-        while left > 0 {
-            let size = match left {
-                // No text has an encoding of 25 bytes.
-                25 => 24,
-                0..=257 => left,
-                _ => 63 + self.random.index(195),
-            };
+        for after in (0..count).rev() {
+            let size = self.size(left, after);
             let length = if size <= 24 { size - 1 } else { size - 2 };
             let text = self.text_of(length);
             texts.push(Item::Text(without_dots(text)));
             left -= size;
         }
         texts
+    }
+
+    /// The size of an encoded text, where it and the `after` ones after it have `left` bytes together.
+    fn size(&mut self, left: usize, after: usize) -> usize {
+        let least = left.saturating_sub(after * LONGEST_TEXT).max(1);
+        let most = (left - after).min(LONGEST_TEXT);
+        // No text has an encoding of 25 bytes.
+        let fits = |size: usize| size != 25 && (after != 1 || left - size != 25);
+        loop {
+            let around = 1 + self.random.index(2 * left / (after + 1));
+            let any = least + self.random.index(most - least + 1);
+            let size = self.random.pick(&[around, around, any]).clamp(least, most);
+            if fits(size) {
+                return size;
+            }
+        }
     }
 
     fn opening(&mut self) -> Vec<Item> {
@@ -490,11 +513,15 @@ impl<'r> Maker<'r> {
         if self.random.chance(25) {
             return Item::Null;
         }
+        const MOST: usize = MAX_SEGMENTS;
         let count = if self.slip() {
-            self.random.pick(&[33, 33, 34, 64])
+            self.random.pick(&[MOST + 1, MOST + 1, MOST + 2, 2 * MOST])
+        } else if self.random.chance(4) {
+            let any = self.random.index(MOST + 1);
+            self.random.pick(&[MOST - 1, MOST, MOST, any])
         } else {
             self.random
-                .pick(&[0, 0, 1, 1, 2, 3, 5, 15, 22, 23, 24, 31, 31, 32, 32])
+                .pick(&[0, 0, 1, 1, 2, 3, 5, 15, 22, 23, 24, 31, 32])
         };
         let texts = self.texts(count, Self::segment);
         self.array_item(texts)

@@ -1,7 +1,7 @@
 //! Components as words: those that were read, and those to be written.
 
 use super::{hex, Words};
-use crate::reader::{self, Reference};
+use crate::reader::{self, Reference, Texts};
 use crate::writer::{Authority, Discard, Host, Opening, Scheme, Span};
 
 /// The components of a reference as words, each with a space before it; `text` says a text or an address.
@@ -17,16 +17,16 @@ pub fn said(reference: &Reference, text: &dyn Fn(&[u8]) -> String) -> String {
             words += &authority_said(authority, text);
         }
     }
-    if let Some(path) = &reference.path {
+    if let Some(path) = reference.path {
         words += " path";
         words += &texts_said("segment", path, text);
     }
-    if let Some(query) = &reference.query {
+    if let Some(query) = reference.query {
         words += " query";
         words += &texts_said("parameter", query, text);
     }
     if let Some(fragment) = reference.fragment {
-        words += &texts_said("fragment", &[fragment], text);
+        words += &format!(" fragment {}", text(fragment.as_bytes()));
     }
     words
 }
@@ -40,7 +40,7 @@ fn scheme_said(scheme: &reader::Scheme, text: &dyn Fn(&[u8]) -> String) -> Strin
 }
 
 fn authority_said(authority: &reader::Authority, text: &dyn Fn(&[u8]) -> String) -> String {
-    let host = match &authority.host {
+    let host = match authority.host {
         reader::Host::Address(address) => format!(" address {}", text(address)),
         reader::Host::Labels(labels) => texts_said("label", labels, text),
     };
@@ -50,10 +50,10 @@ fn authority_said(authority: &reader::Authority, text: &dyn Fn(&[u8]) -> String)
     format!(" authority{host}{port}")
 }
 
-fn texts_said(name: &str, texts: &[&str], text: &dyn Fn(&[u8]) -> String) -> String {
+fn texts_said(name: &str, texts: Texts, text: &dyn Fn(&[u8]) -> String) -> String {
     texts
         .iter()
-        .map(|content| format!(" {name} {}", text(content.as_bytes())))
+        .map(|content| format!(" {name} {}", text(content)))
         .collect()
 }
 

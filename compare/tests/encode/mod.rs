@@ -35,3 +35,12 @@ pub fn texts(lengths: &[usize]) -> Vec<u8> {
     let items: Vec<_> = lengths.iter().map(|&length| text(length)).collect();
     array(&items)
 }
+
+/// The lengths of texts whose array has `size` bytes: all but the last are the longest, and that one has a head of two bytes.
+pub fn filling(size: usize) -> Vec<usize> {
+    let left = size - head(4, size / 257).len();
+    let mut lengths = vec![255; left / 257];
+    lengths.push(left % 257 - 2);
+    assert_eq!(texts(&lengths).len(), size);
+    lengths
+}

@@ -3,11 +3,13 @@ ghost use mathlib.Core.Path.{_≡_};
 ghost use lib.ListN.{length};
 ghost use Rattle.rules.specs.Model.{limits};
 ghost use Rattle.rules.specs.Calls.{lengthOf, outcome, after, readCall, resolveCall, textCall, optionsCall};
+ghost use Rattle.components.specs.Layout.{spansAfter};
 ghost use Rattle.outcomes.specs.Answers.{outcomeIs};
 ghost use Rattle.bench_calls.specs.Packed.{packedRefusal, packed, packedRead, segmentCount};
 ghost use Rattle.round_trip.specs.Again.{again};
 use cri::Outcome;
 use cri::Refusal;
+use cri::Spans;
 use cri::Verdict;
 
 // What a refusal is as one number: its own, and 256 times its place.
@@ -29,10 +31,11 @@ fn outcome_packed(outcome: Outcome) -> u64
 
 // 0, or the refusal; its components are made too.
 #[no_mangle]
-pub extern "C" fn bench_read(s: &[u8]) -> u64
+pub extern "C" fn bench_read(s: &[u8], spans: &mut Spans) -> u64
     ensures { λ r. ⌜ r ≡ packedRead (readCall limits (now (s .entry))) ⌝ }
+    ensures { λ _. ⌜ now (spans .exit) ≡ spansAfter (readCall limits (now (s .entry))) (now (spans .entry)) ⌝ }
 {
-    let reading = cri::read(s);
+    let reading = cri::read(s, spans);
     let verdict = reading.verdict;
     match verdict {
         Verdict::Accepted => 0,
@@ -42,25 +45,24 @@ pub extern "C" fn bench_read(s: &[u8]) -> u64
 
 // How many segments its path has: none where it is refused.
 #[no_mangle]
-pub extern "C" fn bench_segments(s: &[u8]) -> usize
+pub extern "C" fn bench_segments(s: &[u8], spans: &mut Spans) -> usize
     ensures { λ r. ⌜ r ≡ segmentCount (readCall limits (now (s .entry))) ⌝ }
+    ensures { λ _. ⌜ now (spans .exit) ≡ spansAfter (readCall limits (now (s .entry))) (now (spans .entry)) ⌝ }
 {
-    let reading = cri::read(s);
+    let reading = cri::read(s, spans);
     let components = reading.components;
     let path = components.path;
-    match path {
-        cri::Texts::Unset => 0,
-        cri::Texts::Set(n) => n,
-    }
+    components::text_count(path)
 }
 
 // A link read, and written again into the room: the length written.
 #[no_mangle]
-pub extern "C" fn bench_rewrite(s: &[u8], room: &mut [u8]) -> usize
+pub extern "C" fn bench_rewrite(s: &[u8], spans: &mut Spans, room: &mut [u8]) -> usize
     ensures { λ r. ⌜ r ≡ lengthOf (outcome (again limits (now (s .entry))) (length (now (room .entry)))) ⌝ }
     ensures { λ _. ⌜ now (room .exit) ≡ after (again limits (now (s .entry))) (now (room .entry)) ⌝ }
+    ensures { λ _. ⌜ now (spans .exit) ≡ spansAfter (readCall limits (now (s .entry))) (now (spans .entry)) ⌝ }
 {
-    outcomes::written(round_trip::rewrite(s, room))
+    outcomes::written(round_trip::rewrite(s, spans, room))
 }
 
 // A reference resolved against a base into the room.

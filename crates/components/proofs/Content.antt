@@ -1,22 +1,20 @@
--- What the structs say undoes how they are laid out.
-use Prim.Native.Nat.{ℕ, zero, suc, _≤_}
+-- What the structs and the array say undoes how they are laid out.
+use Prim.Native.Nat.{ℕ, _+_, _*_}
 use native.Mathlib.Omega.{arith}
-use mathlib.Core.Path.{_≡_, refl, ap}
-use mathlib.Core.Bool.{true, _&&_}
-use mathlib.Core.List.{List, [], _∷_}
+use mathlib.Core.Path.{_≡_, refl, sym, ap, ap₂, _∙_}
+use mathlib.Core.List.{List, [], _∷_, _++_, append-assoc}
 use mathlib.Core.Option.{Option, none, some}
-use lib.ListN.{length}
-use lib.Dec.{leb}
-use borrow.Author.Tests.{leb-true}
+use lib.ListN.{length, drop, length-append}
+use lib.Seq.{drop-at}
 use Rattle.rules.specs.Model as Model
-use Rattle.rules.specs.Model.{elements, limits}
-use Rattle.rules.specs.Writing.{labelsOf, openingLabels, counted}
-use Rattle.rules.proofs.Tools.{and-left, and-right}
+use Rattle.rules.specs.Model.{elements}
+use Rattle.rules.specs.Writing.{labelsOf, openingLabels}
 use Rattle.reader.specs.declared.Port.{Port}
 use Rattle.reader.specs.declared.Port.the-variants as PortV
 use Rattle.reader.specs.Answers.{portOf}
-use Rattle.components.specs.Content.{spansOf, schemeOf, authorityOf, openingOf, textsOf, fragmentOf, componentsOf}
-use Rattle.components.specs.Layout.{pad, spansLaid, schemeLaid, portLaid, hostLaid, openingLaid, textsLaid, fragmentLaid, componentsLaid}
+use Rattle.components.specs.Content.{spansOf, schemeOf, authorityOf, openingOf, textsOf, fragmentOf, hostCount, labelCount, textCount, componentsOf}
+use Rattle.components.specs.Layout.{schemeLaid, portLaid, hostLaid, openingLaid, textsLaid, fragmentLaid, componentsLaid, spanNumbers, textNumbers}
+use Rattle.components.proofs.Filling.{length-numbers}
 
 -- a port is laid out as the reader has it
 pub port-laid : (p : Port) → p ≡ portLaid (portOf p)
@@ -28,48 +26,69 @@ port-said : (p : Option ℕ) → portOf (portLaid p) ≡ p
 port-said none = refl
 port-said (some n) = refl
 
--- an array that is long enough says all the spans
-spans-said : (n : ℕ) (ts : List Model.Span) → length ts ≤ n → spansOf (length ts) (spansLaid n ts) ≡ ts
-unfolding spansOf pad
-spans-said n [] h = refl
-spans-said zero (t ∷ ts) h = absurd (omega arith)
-spans-said (suc n) (t ∷ ts) h = ap (λ (l : List Model.Span). t ∷ l) (spans-said n ts (omega arith))
+-- numbers say the spans that they are of
+spans-said : (ts : List Model.Span) (xs : List ℕ) → spansOf (length ts) (spanNumbers ts ++ xs) ≡ ts
+unfolding spansOf spanNumbers
+spans-said [] xs = refl
+spans-said (t ∷ ts) xs = ap (λ (l : List Model.Span). t ∷ l) (spans-said ts xs)
 
 scheme-said : (s : Option (Model.Scheme Model.Span)) → schemeOf (schemeLaid s) ≡ s
 scheme-said none = refl
 scheme-said (some (Model.number n)) = refl
 scheme-said (some (Model.name t)) = refl
 
-host-said : (n : ℕ) (h : Model.Host Model.Span) (p : Option ℕ) → length (labelsOf h) ≤ n
-    → authorityOf (spansLaid n (labelsOf h)) (hostLaid h (portLaid p)) ≡ some (record { host = h; port = p })
-host-said n (Model.address a) p m = λ i. some (record { host = Model.address a; port = port-said p i })
-host-said n (Model.labels ts) p m = λ i. some (record { host = Model.labels (spans-said n ts m i); port = port-said p i })
+host-said : (h : Model.Host Model.Span) (p : Option ℕ) (xs : List ℕ)
+    → authorityOf (spanNumbers (labelsOf h) ++ xs) (hostLaid h (portLaid p)) ≡ some (record { host = h; port = p })
+host-said (Model.address a) p xs = λ i. some (record { host = Model.address a; port = port-said p i })
+host-said (Model.labels ts) p xs = λ i. some (record { host = Model.labels (spans-said ts xs i); port = port-said p i })
 
-opening-said : (n : ℕ) (o : Model.Opening Model.Span) → length (openingLabels o) ≤ n → openingOf (spansLaid n (openingLabels o)) (openingLaid o) ≡ o
-opening-said n (Model.discard k) m = refl
-opening-said n Model.discardAll m = refl
-opening-said n (Model.full s none) m = λ i. Model.full (scheme-said s i) none
-opening-said n (Model.full s (some a)) m = λ i. Model.full (scheme-said s i) (host-said n (a .host) (a .port) m i)
+opening-said : (o : Model.Opening Model.Span) (xs : List ℕ) → openingOf (spanNumbers (openingLabels o) ++ xs) (openingLaid o) ≡ o
+opening-said (Model.discard k) xs = refl
+opening-said Model.discardAll xs = refl
+opening-said (Model.full s none) xs = λ i. Model.full (scheme-said s i) none
+opening-said (Model.full s (some a)) xs = λ i. Model.full (scheme-said s i) (host-said (a .host) (a .port) xs i)
 
-texts-said : (n : ℕ) (ts : Option (List Model.Span)) → length (elements ts) ≤ n → textsOf (spansLaid n (elements ts)) (textsLaid ts) ≡ ts
-texts-said n none m = refl
-texts-said n (some ts) m = ap some (spans-said n ts m)
+texts-said : (ts : Option (List Model.Span)) (xs : List ℕ) → textsOf (spanNumbers (elements ts) ++ xs) (textsLaid ts) ≡ ts
+texts-said none xs = refl
+texts-said (some ts) xs = ap some (spans-said ts xs)
 
 fragment-said : (t : Option Model.Span) → fragmentOf (fragmentLaid t) ≡ t
 fragment-said none = refl
 fragment-said (some t) = refl
 
--- of components whose labels, segments and parameters are not too many for the arrays
-pub components-said : (c : Model.Components) → counted limits c ≡ true → componentsOf (componentsLaid c) ≡ c
-unfolding counted
-components-said c n =
-    let ls : ℕ = length (openingLabels (c .opening)) in
-    let ps : ℕ = length (elements (c .path)) in
-    let qs : ℕ = length (elements (c .query)) in
-    let m : (leb ps (limits .segments) && leb qs 16) ≡ true = and-right (leb ls 8) _ n in
+-- ---- the texts that stand in the array
+
+labels-counted : (o : Model.Opening Model.Span) → labelCount (openingLaid o) ≡ length (openingLabels o)
+labels-counted (Model.discard k) = refl
+labels-counted Model.discardAll = refl
+labels-counted (Model.full s none) = refl
+labels-counted (Model.full s (some a)) = host-counted (a .host) (portLaid (a .port))
+  where
+    host-counted : (h : Model.Host Model.Span) (p : Port) → hostCount (hostLaid h p) ≡ length (labelsOf h)
+    host-counted (Model.address a) p = refl
+    host-counted (Model.labels ts) p = refl
+
+pub texts-counted : (ts : Option (List Model.Span)) → textCount (textsLaid ts) ≡ length (elements ts)
+texts-counted none = refl
+texts-counted (some ts) = refl
+
+-- the numbers of a reference, and what stood behind them, say its components
+pub components-said : (c : Model.Components) (xs : List ℕ) → componentsOf (textNumbers c ++ xs) (componentsLaid c) ≡ c
+components-said c xs =
+    let ls : List ℕ = spanNumbers (openingLabels (c .opening)) in
+    let ps : List ℕ = spanNumbers (elements (c .path)) in
+    let qs : List ℕ = spanNumbers (elements (c .query)) in
+    let n : ℕ = 2 * labelCount (openingLaid (c .opening)) in
+    let m : ℕ = 2 * textCount (textsLaid (c .path)) in
+    let all : textNumbers c ++ xs ≡ ls ++ (ps ++ (qs ++ xs)) = append-assoc ls (ps ++ qs) xs ∙ ap (λ (r : List ℕ). ls ++ r) (append-assoc ps qs xs) in
+    let nl : length ls ≡ n = omega (arith, length-numbers (openingLabels (c .opening)), labels-counted (c .opening)) in
+    let np : length ps ≡ m = omega (arith, length-numbers (elements (c .path)), texts-counted (c .path)) in
+    let path : drop n (textNumbers c ++ xs) ≡ ps ++ (qs ++ xs) = ap (drop n) all ∙ drop-at ls (ps ++ (qs ++ xs)) n nl in
+    let query : drop (n + m) (textNumbers c ++ xs) ≡ qs ++ xs =
+    ap (drop (n + m)) (all ∙ sym (append-assoc ls ps (qs ++ xs))) ∙ drop-at (ls ++ ps) (qs ++ xs) (n + m) (length-append ls ps ∙ ap₂ (λ (n m : ℕ). n + m) nl np) in
     λ i. record {
-      opening = opening-said 8 (c .opening) (leb-true ls 8 (and-left (leb ls 8) _ n)) i;
-      path = texts-said (limits .segments) (c .path) (leb-true ps (limits .segments) (and-left (leb ps (limits .segments)) _ m)) i;
-      query = texts-said 16 (c .query) (leb-true qs 16 (and-right (leb ps (limits .segments)) _ m)) i;
+      opening = (ap (λ (l : List ℕ). openingOf l (openingLaid (c .opening))) all ∙ opening-said (c .opening) (ps ++ (qs ++ xs))) i;
+      path = (ap (λ (l : List ℕ). textsOf l (textsLaid (c .path))) path ∙ texts-said (c .path) (qs ++ xs)) i;
+      query = (ap (λ (l : List ℕ). textsOf l (textsLaid (c .query))) query ∙ texts-said (c .query) xs) i;
       fragment = fragment-said (c .fragment) i;
     }

@@ -1,76 +1,85 @@
--- A walk over n items that puts their spans into an array of any size, from the front.
-use Prim.Native.Nat.{ℕ, zero, suc, _+_, _-_, _≤_, _<_}
+-- A walk over items that puts where they stand into a room of numbers.
+use Prim.Native.Nat.{ℕ, suc, _+_, _-_, _*_, _≤_, _<_}
 use native.Mathlib.Omega.{arith}
-use mathlib.Core.Path.{_≡_, refl, sym, ap, _∙_, subst}
-use mathlib.Core.List.{List, [], _∷_, _++_, append-assoc, append-nil, map, map-append}
-use lib.ListN.{length, set, length-append, length-map}
+use mathlib.Core.Path.{_≡_, refl, sym, ap, subst}
+use mathlib.Core.List.{List, [], _∷_}
+use lib.ListN.{length, set}
 use Rattle.rules.specs.Bytes.{Bytes}
-use Rattle.rules.specs.Model as Model
-use Rattle.rules.specs.Reader.{spanAt, endAt, spans}
-use Rattle.rules.specs.Views.{nowhere}
-use Rattle.rules.specs.Standing.{ItemStands, RowAt}
-use Rattle.cbor.specs.declared.Span.{Span}
+use Rattle.rules.specs.Model.{Span, elements, limits, mostLabels, mostParameters}
+use Rattle.rules.specs.Reader.{Slot, unset, Found, spanAt, endAt, spans}
+use Rattle.rules.specs.Reader as Reader
+use Rattle.rules.specs.Meaning.{textSpans}
+use Rattle.rules.specs.Standing.{ItemStands, RowAt, TextsStand, FoundStands}
+use Rattle.rules.proofs.Texts.{length-spans}
+use Rattle.put.specs.Wrote.{Wrote}
+use Rattle.put.proofs.Wrote.{Left, Next, left-all, left-done, next-room, next-wrote, wrote-two}
+use Rattle.cbor.specs.declared.Span as Code
 use Rattle.cbor.specs.Heads.{spanIs}
-use Rattle.components.specs.Layout.{spanLaid, pad, spansLaid}
+use Rattle.components.specs.Content.{mostNumbers}
+use Rattle.components.specs.Layout.{spanNumbers, TextsAt}
 
--- a store just past the list makes the list one longer
-set-pad : {A : Type 0} (n : ℕ) (z : A) (xs : List A) (v : A) → length xs < n → set (pad n z xs) (length xs) v ≡ pad n z (xs ++ (v ∷ []))
-unfolding pad
-set-pad zero z [] v h = absurd (omega arith)
-set-pad (suc n) z [] v h = refl
-set-pad zero z (x ∷ xs) v h = absurd (omega arith)
-set-pad (suc n) z (x ∷ xs) v h = ap (λ t. x ∷ t) (set-pad n z xs v (omega arith))
+-- two numbers for each span
+pub length-numbers : (ts : List Span) → length (spanNumbers ts) ≡ 2 * length ts
+unfolding spanNumbers
+length-numbers [] = refl
+length-numbers (t ∷ ts) = omega (arith, length-numbers ts)
 
--- the array with i of the n items at its front, and the next one at a position
-pub record Filled (size : ℕ) (bs : Bytes) (at n next i : ℕ) (array : List Span) : Type 0 where
-  pub done : List Model.Span
-  pub count : length done ≡ i
-  pub most : i ≤ n
-  pub holds : array ≡ spansLaid size done
-  pub left : done ++ spans bs next (n - i) ≡ spans bs at n
-  pub stand : RowAt bs next (n - i)
+-- those of a path, a query or labels
+abbrev pub textsAt : Bytes → Slot → List ℕ
+textsAt bs t = spanNumbers (elements (textSpans bs t))
 
-pub fill-start : (size : ℕ) (bs : Bytes) (at n : ℕ) → RowAt bs at n → Filled size bs at n at 0 (spansLaid size [])
-fill-start size bs at n h =
-    let e : n ≡ n - 0 = omega arith in
-    record { done = []; count = refl; most = omega arith; holds = refl; left = ap (spans bs at) (sym e); stand = subst (RowAt bs at) e h }
+-- at most twice as many as there may be texts
+texts-size : (most : ℕ) (bs : Bytes) (t : Slot) → TextsStand most bs t → length (textsAt bs t) ≤ 2 * most
+unfolding spanNumbers
+texts-size most bs unset h = omega arith
+texts-size most bs (Reader.set at n) h = omega (arith, length-numbers (spans bs at n), length-spans bs at n, h .count)
 
-module _ {size : ℕ} {bs : Bytes} {at n next i : ℕ} {array : List Span} (f : Filled size bs at n next i array) where
-  one-more : i < n → n - i ≡ suc (n - (i + 1))
+pub texts-at : (most : ℕ) (bs : Bytes) (t : Slot) → TextsStand most bs t → TextsAt bs t
+texts-at most bs unset h = tt
+texts-at most bs (Reader.set at n) h = h .each
+
+-- the labels, which stand at l, the segments and the parameters that were found have room in the array
+pub found-size : (bs : Bytes) (l : Slot) (f : Found) → TextsStand mostLabels bs l → FoundStands limits bs f
+    → length (textsAt bs l) + length (textsAt bs (f .path)) + length (textsAt bs (f .query)) ≤ mostNumbers
+found-size bs l f h g =
+    omega (arith, texts-size mostLabels bs l h, texts-size (limits .segments) bs (f .path) (g .path), texts-size mostParameters bs (f .query) (g .query))
+
+-- the items from `next` on are left, and their numbers are to be put at o
+pub record Filling (room : List ℕ) (o : ℕ) (bs : Bytes) (next left : ℕ) (room₀ : List ℕ) (at : ℕ) (w₀ : List ℕ) : Type 0 where
+  pub numbers : Left room o (spanNumbers (spans bs next left)) room₀ at w₀
+  pub stand : RowAt bs next left
+
+pub fill-start : {room : List ℕ} {at : ℕ} (bs : Bytes) (first n : ℕ) → RowAt bs first n → Filling room at bs first n room at (spanNumbers (spans bs first n))
+fill-start bs first n h = record { numbers = left-all; stand = h }
+
+module _ {room room₀ w₀ : List ℕ} {o at : ℕ} {bs : Bytes} {next left : ℕ} (f : Filling room o bs next left room₀ at w₀) where
+  one-more : 0 < left → left ≡ suc (left - 1)
   one-more h = omega arith
 
-  pub fill-item : i < n → ItemStands bs next
+  -- the next item, and what is left after it
+  pub fill-item : 0 < left → ItemStands bs next
   fill-item h = subst (RowAt bs next) (one-more h) (f .stand) .0
 
-  pub fill-inside : i < n → (span : Span) → spanIs span ≡ spanAt bs next → span .start + span .length ≤ length bs
-  fill-inside h span e = subst (λ (s : Model.Span). s .start + s .length ≤ length bs) (sym e) (fill-item h .inside)
+  numbers-next : 0 < left → Next room o (spanAt bs next .start ∷ spanAt bs next .length ∷ []) (spanNumbers (spans bs (endAt bs next) (left - 1))) room₀ at w₀
+  unfolding spanNumbers spans
+  numbers-next h = record { left = subst (λ (n : ℕ). Left room o (spanNumbers (spans bs next n)) room₀ at w₀) (one-more h) (f .numbers) }
 
-  pub fill-step : i < n → n ≤ size → (span : Span) → spanIs span ≡ spanAt bs next → Filled size bs at n (span .start + span .length) (i + 1) (set array i span)
-  unfolding spans
-  fill-step h m span e =
-      let end : endAt bs next ≡ span .start + span .length = ap (λ (s : Model.Span). s .start + s .length) (sym e) in
-      let now : List Model.Span = f .done ++ (spanAt bs next ∷ []) in
-      let k : length (map spanLaid (f .done)) ≡ i = length-map (f .done) spanLaid ∙ f .count in
-      record {
-        done = now;
-        count = length-append (f .done) (spanAt bs next ∷ []) ∙ ap (λ (k : ℕ). k + 1) (f .count);
-        most = omega arith;
-        holds =
-            ap (λ (xs : List Span). set xs i span) (f .holds)
-            ∙ ap (λ (j : ℕ). set (spansLaid size (f .done)) j span) (sym k)
-            ∙ set-pad size _ (map spanLaid (f .done)) span (omega (arith, k))
-            ∙ ap (λ (s : Model.Span). pad size (spanLaid nowhere) (map spanLaid (f .done) ++ (spanLaid s ∷ []))) e
-            ∙ ap (pad size _) (sym (map-append spanLaid (f .done) (spanAt bs next ∷ [])));
-        left =
-            ap (λ (p : ℕ). now ++ spans bs p (n - (i + 1))) (sym end)
-            ∙ append-assoc (f .done) (spanAt bs next ∷ []) (spans bs (endAt bs next) (n - (i + 1)))
-            ∙ ap (λ (k : ℕ). f .done ++ spans bs next k) (sym (one-more h))
-            ∙ f .left;
-        stand = subst (λ (p : ℕ). RowAt bs p (n - (i + 1))) end (subst (RowAt bs next) (one-more h) (f .stand) .1);
-      }
+  pub fill-room : 0 < left → at + length w₀ ≤ length room₀ → o + 2 ≤ length room
+  fill-room h m = next-room (numbers-next h) m
 
-  pub fill-end : n ≤ i → array ≡ spansLaid size (spans bs at n)
-  unfolding spans
+  pub fill-inside : 0 < left → (span : Code.Span) → spanIs span ≡ spanAt bs next → span .start + span .length ≤ length bs
+  fill-inside h span e = subst (λ (s : Span). s .start + s .length ≤ length bs) (sym e) (fill-item h .inside)
+
+  pub fill-step : 0 < left → (span : Code.Span) → spanIs span ≡ spanAt bs next
+      → Filling (set (set room o (span .start)) (o + 1) (span .length)) (o + 2) bs (span .start + span .length) (left - 1) room₀ at w₀
+  fill-step h span e =
+      let end : endAt bs next ≡ span .start + span .length = ap (λ (s : Span). s .start + s .length) (sym e) in
+      let one = subst (λ (s : Span). Next room o (s .start ∷ s .length ∷ []) (spanNumbers (spans bs (endAt bs next) (left - 1))) room₀ at w₀) (sym e) (numbers-next h) in
+      subst (λ (p : ℕ). Filling (set (set room o (span .start)) (o + 1) (span .length)) (o + 2) bs p (left - 1) room₀ at w₀) end
+      (record { numbers = next-wrote one wrote-two; stand = subst (RowAt bs next) (one-more h) (f .stand) .1 })
+
+  pub fill-end : left ≤ 0 → Wrote room₀ at w₀ room o
+  unfolding spanNumbers spans
   fill-end h =
-      let e : n - i ≡ 0 = omega arith in
-      f .holds ∙ ap (spansLaid size) (sym (append-nil (f .done)) ∙ ap (λ (k : ℕ). f .done ++ spans bs next k) (sym e) ∙ f .left)
+      let none : left ≡ 0 = omega arith in
+      left-done (subst (λ (n : ℕ). Left room o (spanNumbers (spans bs next n)) room₀ at w₀) none (f .numbers))

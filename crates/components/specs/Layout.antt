@@ -1,13 +1,15 @@
--- How the components of the rules are laid out in this crate's structs.
-use Prim.Native.Nat.{ℕ, zero, suc}
-use mathlib.Core.List.{List, [], _∷_, map}
+-- How the components of the rules are laid out in this crate's structs, and in the array that is lent for the spans of texts.
+use Prim.Native.Nat.{ℕ}
+use mathlib.Core.List.{List, [], _∷_, _++_}
 use mathlib.Core.Option.{Option, none, some}
-use lib.ListN.{length, replicate}
+use lib.ListN.{length, drop}
+use Rattle.rules.specs.Bytes.{Bytes}
 use Rattle.rules.specs.Result.{Res, refused, ok}
 use Rattle.rules.specs.Model as Model
-use Rattle.rules.specs.Model.{elements, limits, mostLabels, mostParameters}
+use Rattle.rules.specs.Model.{elements}
+use Rattle.rules.specs.Reader.{Slot, unset, set}
 use Rattle.rules.specs.Writing.{openingLabels}
-use Rattle.rules.specs.Views.{nowhere}
+use Rattle.rules.specs.Standing.{RowAt}
 use Rattle.refusals.specs.declared.Verdict.the-variants as VerdictV
 use Rattle.cbor.specs.declared.Span.{Span}
 use Rattle.reader.specs.declared.Port.{Port}
@@ -28,16 +30,6 @@ use Rattle.components.specs.declared.Reading.{Reading}
 -- where a text or an address stands
 abbrev pub spanLaid : Model.Span → Span
 spanLaid s = record { start = s .start; length = s .length }
-
--- an array of n: a list of at most n, and z after it
-unfoldable pub pad : {A : Type 0} → ℕ → A → List A → List A
-pad n z [] = replicate n z
-pad zero z (x ∷ xs) = []
-pad (suc n) z (x ∷ xs) = x ∷ pad n z xs
-
--- an array of n spans: those of a list, and empty spans at 0 after them
-abbrev pub spansLaid : ℕ → List Model.Span → List Span
-spansLaid n ss = pad n (spanLaid nowhere) (map spanLaid ss)
 
 -- the scheme's number, or where its text stands
 abbrev pub schemeLaid : Option (Model.Scheme Model.Span) → Scheme
@@ -79,15 +71,7 @@ fragmentLaid (some t) = FragmentV.Is (spanLaid t)
 -- all of them
 abbrev pub componentsLaid : Model.Components → Components
 componentsLaid c =
-    record {
-      opening = openingLaid (c .opening);
-      labels = spansLaid mostLabels (openingLabels (c .opening));
-      path = textsLaid (c .path);
-      segments = spansLaid (limits .segments) (elements (c .path));
-      query = textsLaid (c .query);
-      parameters = spansLaid mostParameters (elements (c .query));
-      fragment = fragmentLaid (c .fragment);
-    }
+    record { opening = openingLaid (c .opening); path = textsLaid (c .path); query = textsLaid (c .query); fragment = fragmentLaid (c .fragment) }
 
 -- RULES 9.5: a refused read reports every component unset
 abbrev pub noComponents : Model.Components
@@ -97,3 +81,24 @@ noComponents = record { opening = Model.full none none; path = none; query = non
 abbrev pub readingLaid : Res Model.Components → Reading
 readingLaid (refused n k) = record { verdict = VerdictV.Refused (record { number = n; place = k }); components = componentsLaid noComponents }
 readingLaid (ok c) = record { verdict = VerdictV.Accepted; components = componentsLaid c }
+
+-- ---- the array of numbers
+
+-- the texts of a path, a query or labels stand there, one after the other
+abbrev pub TextsAt : Bytes → Slot → Type 0
+TextsAt bs unset = Unit {0}
+TextsAt bs (set at n) = RowAt bs at n
+
+-- start and length of each span
+unfoldable pub spanNumbers : List Model.Span → List ℕ
+spanNumbers [] = []
+spanNumbers (s ∷ ss) = s .start ∷ s .length ∷ spanNumbers ss
+
+-- the numbers of the labels, then of the segments, then of the parameters
+abbrev pub textNumbers : Model.Components → List ℕ
+textNumbers c = spanNumbers (openingLabels (c .opening)) ++ (spanNumbers (elements (c .path)) ++ spanNumbers (elements (c .query)))
+
+-- the array after reading: untouched by a refusal, and past the numbers that were stored
+unfoldable pub spansAfter : Res Model.Components → List ℕ → List ℕ
+spansAfter (refused n k) xs = xs
+spansAfter (ok c) xs = textNumbers c ++ drop (length (textNumbers c)) xs

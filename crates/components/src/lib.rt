@@ -1,20 +1,24 @@
 // The components of a CRI reference, and reading them: each text and address as where it stands in lent bytes.
+ghost use Prim.Native.Nat.{_+_, _≤_};
 ghost use mathlib.Core.Path.{_≡_};
 ghost use mathlib.Core.Option.{some};
+ghost use lib.ListN.{length, getD};
 ghost use Rattle.rules.specs.Bytes.{Bytes};
-ghost use Rattle.rules.specs.Model.{elements, limits, mostLabels, mostParameters};
+ghost use Rattle.rules.specs.Result.{ok};
+ghost use Rattle.rules.specs.Model.{elements, limits, mostLabels};
 ghost use Rattle.rules.specs.Reader.{spans};
-ghost use Rattle.rules.specs.Meaning.{schemeSpan, hostSpans, authoritySpans, openingSpans, textSpans, textSpan, components};
+ghost use Rattle.rules.specs.Meaning.{schemeSpan, authoritySpans, openingSpans, textSpans, textSpan, components};
 ghost use Rattle.rules.specs.Calls.{readCall};
-ghost use Rattle.rules.specs.Writing.{labelsOf, openingLabels};
-ghost use Rattle.rules.specs.Standing.{RowWithin, HostStands, OpeningStands, TextsStand, FoundStands};
-ghost use Rattle.reader.specs.Answers.{slotOf, hostOf, authorityOf, schemeOf, openingOf, foundOf};
-ghost use Rattle.components.specs.Layout.{spansLaid, schemeLaid, authorityLaid, openingLaid, textsLaid, fragmentLaid, noComponents, componentsLaid, readingLaid};
+ghost use Rattle.rules.specs.Writing.{openingLabels};
+ghost use Rattle.rules.specs.Standing.{RowAt, TextsStand, OpeningStands, FoundStands};
+ghost use Rattle.put.specs.Wrote.{Wrote};
+ghost use Rattle.reader.specs.Answers.{slotOf, authorityOf, schemeOf, openingOf, foundOf};
+ghost use Rattle.cbor.specs.Heads.{spanIs};
+ghost use Rattle.components.specs.Content.{numberedSpan, labelCount, textCount};
+ghost use Rattle.components.specs.Layout.{schemeLaid, authorityLaid, openingLaid, textsLaid, fragmentLaid, noComponents, componentsLaid, readingLaid, spanNumbers, spansAfter, TextsAt};
 pub use cbor::Span;
 use cbor::span_at;
-use numbers::LABELS;
-use numbers::PARAMETERS;
-use numbers::SEGMENTS;
+use numbers::SPANS;
 use reader::Answer;
 use reader::AuthorityAt;
 use reader::Found;
@@ -25,6 +29,9 @@ use reader::SchemeAt;
 use reader::Slot;
 use refusals::Verdict;
 
+// Where the labels, then the segments, then the parameters stand: start and length of each.
+pub type Spans = [usize; SPANS];
+
 // Unset; or a scheme's number; or where its text stands.
 pub enum Scheme {
     Unset,
@@ -32,7 +39,7 @@ pub enum Scheme {
     Name(Span),
 }
 
-// Unset; or where an address stands, and a port; or how many of `labels` are set, and a port.
+// Unset; or where an address stands, and a port; or how many labels there are, and a port.
 pub enum Authority {
     Unset,
     Address(Span, Port),
@@ -46,7 +53,7 @@ pub enum Opening {
     Full(Scheme, Authority),
 }
 
-// A path or a query: unset; or how many of `segments` or `parameters` are set.
+// A path or a query: unset; or how many texts it has.
 pub enum Texts {
     Unset,
     Set(usize),
@@ -57,14 +64,11 @@ pub enum Fragment {
     Is(Span),
 }
 
-// Each text by where it stands. Those beyond a count are empty spans at 0.
+// Labels, segments and parameters are counted here; where they stand is in Spans.
 pub struct Components {
     pub opening: Opening,
-    pub labels: [Span; LABELS],
     pub path: Texts,
-    pub segments: [Span; SEGMENTS],
     pub query: Texts,
-    pub parameters: [Span; PARAMETERS],
     pub fragment: Fragment,
 }
 
@@ -74,63 +78,90 @@ pub struct Reading {
     pub components: Components,
 }
 
+// How many labels an opening has.
+pub fn label_count(opening: Opening) -> usize
+    ensures { λ r. ⌜ r ≡ labelCount opening ⌝ }
+{
+    match opening {
+        Opening::Discard(_) => 0,
+        Opening::DiscardAll => 0,
+        Opening::Full(_, authority) => match authority {
+            Authority::Unset => 0,
+            Authority::Address(_, _) => 0,
+            Authority::Labels(n, _) => n,
+        },
+    }
+}
+
+// How many texts a path or a query has.
+pub fn text_count(texts: Texts) -> usize
+    ensures { λ r. ⌜ r ≡ textCount texts ⌝ }
+{
+    match texts {
+        Texts::Unset => 0,
+        Texts::Set(n) => n,
+    }
+}
+
+// The number at a place; 0 past the end.
+fn number_at(numbers: &[usize], at: usize) -> usize
+    ensures { λ r. ⌜ r ≡ getD (now (numbers .entry)) at 0 ⌝ }
+{
+    if at < numbers.len() { numbers[at] } else { 0 }
+}
+
+// Where the k-th text of Spans stands, counted from 0: the labels come first, then the segments, then the parameters. Past the end it is the
+// empty span at 0.
+pub fn text_span(spans: &[usize], k: usize) -> Span
+    ensures { λ r. ⌜ spanIs r ≡ numberedSpan (now (spans .entry)) k ⌝ }
+{
+    if spans.len() <= k {
+        return Span {
+            start: 0,
+            length: 0,
+        };
+    }
+    Span {
+        start: number_at(spans, 2 * k),
+        length: number_at(spans, 2 * k + 1),
+    }
+}
+
 // ---- texts in a row
 
-// The empty span at 0.
-const NOWHERE: Span = Span {
-    start: 0,
-    length: 0,
-};
-
-// Where n labels stand, the first at a position.
-fn label_spans(s: &[u8], at: usize, n: usize) -> [Span; LABELS]
-    requires { ⌜ RowWithin mostLabels (now s) at n ⌝ }
-    ensures { λ r. ⌜ r ≡ spansLaid mostLabels (spans (now (s .entry)) at n) ⌝ }
+// Where n items stand, the first at a position of s, put into the room as numbers. The result is the place after them.
+fn put_spans(room: &mut [usize], at: usize, s: &[u8], first: usize, n: usize) -> usize
+    requires { ⌜ RowAt (now s) first n ⌝ }
+    requires { ⌜ at + length (spanNumbers (spans (now s) first n)) ≤ length (now room) ⌝ }
+    ensures { λ r. ⌜ Wrote (now (room .entry)) at (spanNumbers (spans (now (s .entry)) first n)) (now (room .exit)) r ⌝ }
 {
-    let mut found = [NOWHERE; LABELS];
-    let mut next = at;
-    let mut i = 0;
-    while i < n {
+    let mut o = at;
+    let mut next = first;
+    let mut left = n;
+    while 0 < left {
         let span = span_at(s, next);
-        found[i] = span;
+        room[o] = span.start;
+        room[o + 1] = span.length;
+        o += 2;
         next = span.start + span.length;
-        i += 1;
+        left -= 1;
     }
-    found
+    o
 }
 
-// The same of segments.
-fn segment_spans(s: &[u8], at: usize, n: usize) -> [Span; SEGMENTS]
-    requires { ⌜ RowWithin (limits .segments) (now s) at n ⌝ }
-    ensures { λ r. ⌜ r ≡ spansLaid (limits .segments) (spans (now (s .entry)) at n) ⌝ }
+// The same of a path, a query or labels; of none where it is unset.
+fn put_texts(room: &mut [usize], at: usize, s: &[u8], texts: Slot) -> usize
+    requires { ⌜ TextsAt (now s) (slotOf texts) ⌝ }
+    requires { ⌜ at + length (spanNumbers (elements (textSpans (now s) (slotOf texts)))) ≤ length (now room) ⌝ }
+    ensures { λ r. ⌜ Wrote (now (room .entry)) at (spanNumbers (elements (textSpans (now (s .entry)) (slotOf texts)))) (now (room .exit)) r ⌝ }
 {
-    let mut found = [NOWHERE; SEGMENTS];
-    let mut next = at;
-    let mut i = 0;
-    while i < n {
-        let span = span_at(s, next);
-        found[i] = span;
-        next = span.start + span.length;
-        i += 1;
+    match texts {
+        Slot::Unset => at,
+        Slot::Set {
+            at: first,
+            count: n,
+        } => put_spans(room, at, s, first, n),
     }
-    found
-}
-
-// The same of parameters.
-fn parameter_spans(s: &[u8], at: usize, n: usize) -> [Span; PARAMETERS]
-    requires { ⌜ RowWithin mostParameters (now s) at n ⌝ }
-    ensures { λ r. ⌜ r ≡ spansLaid mostParameters (spans (now (s .entry)) at n) ⌝ }
-{
-    let mut found = [NOWHERE; PARAMETERS];
-    let mut next = at;
-    let mut i = 0;
-    while i < n {
-        let span = span_at(s, next);
-        found[i] = span;
-        next = span.start + span.length;
-        i += 1;
-    }
-    found
 }
 
 // ---- each component
@@ -178,27 +209,20 @@ fn opening_of(opening: OpeningAt) -> Opening
     }
 }
 
-// Where the labels of a host stand.
-fn host_labels(s: &[u8], host: HostAt) -> [Span; LABELS]
-    requires { ⌜ HostStands (now s) (hostOf host) ⌝ }
-    ensures { λ r. ⌜ r ≡ spansLaid mostLabels (labelsOf (hostSpans (now (s .entry)) (hostOf host))) ⌝ }
-{
-    match host {
-        HostAt::Address { .. } => label_spans(s, 0, 0),
-        HostAt::Labels { at, count: n } => label_spans(s, at, n),
-    }
-}
-
-fn labels_of(s: &[u8], opening: OpeningAt) -> [Span; LABELS]
-    requires { ⌜ OpeningStands (now s) (openingOf opening) ⌝ }
-    ensures { λ r. ⌜ r ≡ spansLaid mostLabels (openingLabels (openingSpans (now (s .entry)) (openingOf opening))) ⌝ }
+// Where the labels of an opening stand; unset where it has none.
+fn labels_of(opening: OpeningAt) -> Slot
+    ensures { λ r. ⌜ ((bs : Bytes) → elements (textSpans bs (slotOf r)) ≡ openingLabels (openingSpans bs (openingOf opening))) ⌝ }
+    ensures { λ r. ⌜ ((bs : Bytes) → OpeningStands bs (openingOf opening) → TextsStand mostLabels bs (slotOf r)) ⌝ }
 {
     match opening {
-        OpeningAt::Discard(_) => label_spans(s, 0, 0),
-        OpeningAt::DiscardAll => label_spans(s, 0, 0),
+        OpeningAt::Discard(_) => Slot::Unset,
+        OpeningAt::DiscardAll => Slot::Unset,
         OpeningAt::Full(_, authority) => {
             let host = authority.host;
-            host_labels(s, host)
+            match host {
+                HostAt::Address { .. } => Slot::Unset,
+                HostAt::Labels { at, count: n } => Slot::Set { at: at, count: n },
+            }
         }
     }
 }
@@ -209,26 +233,6 @@ fn texts_of(slot: Slot) -> Texts
     match slot {
         Slot::Unset => Texts::Unset,
         Slot::Set { count: n, .. } => Texts::Set(n),
-    }
-}
-
-fn segments_of(s: &[u8], path: Slot) -> [Span; SEGMENTS]
-    requires { ⌜ TextsStand (limits .segments) (now s) (slotOf path) ⌝ }
-    ensures { λ r. ⌜ r ≡ spansLaid (limits .segments) (elements (textSpans (now (s .entry)) (slotOf path))) ⌝ }
-{
-    match path {
-        Slot::Unset => segment_spans(s, 0, 0),
-        Slot::Set { at, count: n } => segment_spans(s, at, n),
-    }
-}
-
-fn parameters_of(s: &[u8], query: Slot) -> [Span; PARAMETERS]
-    requires { ⌜ TextsStand mostParameters (now s) (slotOf query) ⌝ }
-    ensures { λ r. ⌜ r ≡ spansLaid mostParameters (elements (textSpans (now (s .entry)) (slotOf query))) ⌝ }
-{
-    match query {
-        Slot::Unset => parameter_spans(s, 0, 0),
-        Slot::Set { at, count: n } => parameter_spans(s, at, n),
     }
 }
 
@@ -249,51 +253,55 @@ fn fragment_of(slot: Slot) -> Fragment
 fn no_components() -> Components
     ensures { λ r. ⌜ r ≡ componentsLaid noComponents ⌝ }
 {
-    let labels = [NOWHERE; LABELS];
-    let segments = [NOWHERE; SEGMENTS];
-    let parameters = [NOWHERE; PARAMETERS];
     Components {
         opening: Opening::Full(Scheme::Unset, Authority::Unset),
-        labels: labels,
         path: Texts::Unset,
-        segments: segments,
         query: Texts::Unset,
-        parameters: parameters,
         fragment: Fragment::Unset,
     }
 }
 
-fn components_of(s: &[u8], found: Found) -> Components
-    requires { ⌜ FoundStands limits (now s) (foundOf found) ⌝ }
-    ensures { λ r. ⌜ r ≡ componentsLaid (components (now (s .entry)) (foundOf found)) ⌝ }
+fn components_of(found: Found) -> Components
+    ensures { λ r. ⌜ ((bs : Bytes) → r ≡ componentsLaid (components bs (foundOf found))) ⌝ }
 {
     let opening = found.opening;
     let path = found.path;
     let query = found.query;
     let fragment = found.fragment;
-    let labels = labels_of(s, opening);
-    let segments = segments_of(s, path);
-    let parameters = parameters_of(s, query);
     Components {
         opening: opening_of(opening),
-        labels: labels,
         path: texts_of(path),
-        segments: segments,
         query: texts_of(query),
-        parameters: parameters,
         fragment: fragment_of(fragment),
     }
 }
 
-// What is said, or the refusal.
-pub fn read(s: &[u8]) -> Reading
+// Where the labels, segments and parameters stand, from the start of the room on.
+fn put_found(room: &mut Spans, s: &[u8], found: Found)
+    requires { ⌜ FoundStands limits (now s) (foundOf found) ⌝ }
+    ensures { λ _. ⌜ now (room .exit) ≡ spansAfter (ok (components (now (s .entry)) (foundOf found))) (now (room .entry)) ⌝ }
+{
+    let opening = found.opening;
+    let path = found.path;
+    let query = found.query;
+    let segments = put_texts(room, 0, s, labels_of(opening));
+    let parameters = put_texts(room, segments, s, path);
+    put_texts(room, parameters, s, query);
+}
+
+// What is said, and where its texts stand; or the refusal.
+pub fn read(s: &[u8], spans: &mut Spans) -> Reading
     ensures { λ r. ⌜ r ≡ readingLaid (readCall limits (now (s .entry))) ⌝ }
+    ensures { λ _. ⌜ now (spans .exit) ≡ spansAfter (readCall limits (now (s .entry))) (now (spans .entry)) ⌝ }
 {
     match reader::read(s) {
-        Answer::Is(found) => Reading {
-            verdict: Verdict::Accepted,
-            components: components_of(s, found),
-        },
+        Answer::Is(found) => {
+            put_found(spans, s, found);
+            Reading {
+                verdict: Verdict::Accepted,
+                components: components_of(found),
+            }
+        }
         Answer::Refused(refusal) => Reading {
             verdict: Verdict::Refused(refusal),
             components: no_components(),

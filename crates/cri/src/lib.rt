@@ -5,7 +5,7 @@ ghost use lib.ListN.{length};
 ghost use Rattle.rules.specs.Calls.{outcome, after, readCall, writeCall, resolveCall, textCall, optionsCall};
 ghost use Rattle.rules.specs.Model.{limits};
 ghost use Rattle.components.specs.Content.{componentsOf};
-ghost use Rattle.components.specs.Layout.{readingLaid};
+ghost use Rattle.components.specs.Layout.{readingLaid, spansAfter};
 ghost use Rattle.outcomes.specs.Answers.{outcomeIs};
 pub use cbor::Span;
 pub use components::Authority;
@@ -14,6 +14,7 @@ pub use components::Fragment;
 pub use components::Opening;
 pub use components::Reading;
 pub use components::Scheme;
+pub use components::Spans;
 pub use components::Texts;
 pub use outcomes::Outcome;
 pub use reader::Port;
@@ -35,10 +36,17 @@ pub use numbers::RULE;
 pub use numbers::TAIL;
 pub use numbers::TEXT;
 
-// The largest input, and rooms that are long enough for the text and for the options of every link.
+// The largest input; rooms that are long enough for the text and for the options of every link; the numbers of Spans.
 pub use numbers::BYTES;
 pub use numbers::OPTIONS_ROOM;
+pub use numbers::SPANS;
 pub use numbers::TEXT_ROOM;
+
+// Of what `read` reports and `write` takes, with their contracts in crates/components: how many labels, segments or parameters there are, and where
+// one of them stands.
+pub use components::label_count;
+pub use components::text_count;
+pub use components::text_span;
 
 // The views, whose contracts stand in crates/segment_view and crates/authority_view. `segment` and `authority` give a part of a lent
 // slice; `segment_verdict` and `authority_verdict` of the same arguments tell whether it is given, or the refusal.
@@ -51,21 +59,23 @@ pub use segment_view::segment_verdict;
 // where the base or the link was read and is not absolute; every other number has the place 0, and so has every refusal of `write`.
 
 // Reads a CRI reference: accepted, and its components; or a refusal from 1 to 7, and every component unset. Texts and addresses are given by
-// where they stand in the link.
-pub fn read(link: &[u8]) -> Reading
+// where they stand in the link. Those of labels, segments and parameters go into `spans`, one after the other, start and length of each; past
+// them, and after a refusal, `spans` is as it was.
+pub fn read(link: &[u8], spans: &mut Spans) -> Reading
     ensures { λ r. ⌜ r ≡ readingLaid (readCall limits (now (link .entry))) ⌝ }
+    ensures { λ _. ⌜ now (spans .exit) ≡ spansAfter (readCall limits (now (link .entry))) (now (spans .entry)) ⌝ }
 {
-    components::read(link)
+    components::read(link, spans)
 }
 
-// Writes a CRI reference from components, whose texts and addresses stand in `lent`, into the room: the length written. Or it
-// refuses, and the room is as it was: 4 where a count is over its size or a span lies outside `lent`; the number from
-// 1 to 7 that `read` has for the encoding; 10 where the room is shorter than the encoding.
-pub fn write(components: Components, lent: &[u8], room: &mut [u8]) -> Outcome
-    ensures { λ r. ⌜ outcomeIs r ≡ outcome (writeCall limits (componentsOf components) (now (lent .entry))) (length (now (room .entry))) ⌝ }
-    ensures { λ _. ⌜ now (room .exit) ≡ after (writeCall limits (componentsOf components) (now (lent .entry))) (now (room .entry)) ⌝ }
+// Writes a CRI reference from components, whose texts and addresses stand in `lent`, those of labels, segments and parameters where `spans`
+// tells, into the room: the length written. Or it refuses, and the room is as it was: 4 where a count is over its size or a span lies
+// outside `lent`; the number from 1 to 7 that `read` has for the encoding; 10 where the room is shorter than the encoding.
+pub fn write(components: Components, spans: &Spans, lent: &[u8], room: &mut [u8]) -> Outcome
+    ensures { λ r. ⌜ outcomeIs r ≡ outcome (writeCall limits (componentsOf (now (spans .entry)) components) (now (lent .entry))) (length (now (room .entry))) ⌝ }
+    ensures { λ _. ⌜ now (room .exit) ≡ after (writeCall limits (componentsOf (now (spans .entry)) components) (now (lent .entry))) (now (room .entry)) ⌝ }
 {
-    writer::write(components, lent, room)
+    writer::write(components, spans, lent, room)
 }
 
 // Resolves a reference against a base, and writes the resolved CRI into the room: the length written. Or it refuses,

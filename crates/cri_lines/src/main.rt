@@ -1,17 +1,30 @@
 // Runs the library's calls on requests, one to a line, and answers each with one line (docs/LINES.md).
 ghost use Prim.Native.Nat.{_≤_};
 ghost use lib.ListN.{length};
+use numbers::BYTES;
 use output::Output;
 use output::add_byte;
+use output::add_number;
 use output::add_text;
 use output::flush;
 use output::least;
 use words::find;
 
+// The bytes of the longest line: with place for two links and a room in hex, and for components in words.
+const LINE: usize = 16 * BYTES;
+
+// What is kept of a line that is longer: one byte more, so that it shows.
+const LONG: usize = LINE + 1;
+
+// Lines that are read, and the start of the next.
+const INPUT: usize = 2 * LINE;
+
 // The answer to one line.
 fn answer_line(out: &mut Output, used: usize, line: &[u8]) -> usize {
-    if 65536 < line.len() {
-        return add_text(out, used, b"? line over 65536 bytes\n");
+    if LINE < line.len() {
+        let at = add_text(out, used, b"? line over ");
+        let end = add_number(out, at, LINE as u64);
+        return add_text(out, end, b" bytes\n");
     }
     let at = lines_requests::answer(out, used, line);
     add_byte(out, at, b'\n')
@@ -34,12 +47,12 @@ fn answer_lines(out: &mut Output, input: &[u8], kept: usize) -> usize
     at
 }
 
-// Moves the unfinished line to the start of the input. The result is its length; of one over 65,536 bytes, 65,537 are kept.
+// Moves the unfinished line to the start of the input. The result is its length, at most LONG.
 fn keep(input: &mut [u8], from: usize, end: usize) -> usize
     requires { ⌜ (from ≤ end) × (end ≤ length (now input)) ⌝ }
     ensures { λ r. ⌜ r ≤ length (now (input .exit)) ⌝ }
 {
-    let n = least(end - from, 65537);
+    let n = least(end - from, LONG);
     let mut i = 0;
     while i < n {
         input[i] = input[from + i];
@@ -100,7 +113,7 @@ fn answer_all(out: &mut Output, input: &mut [u8]) {
 }
 
 fn main() {
-    let mut input = [0u8; 131072];
+    let mut input = [0u8; INPUT];
     let mut out = io::large_buffer();
     answer_all(&mut out, &mut input);
 }

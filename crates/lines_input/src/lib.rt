@@ -9,13 +9,21 @@ use components::Components;
 use components::Fragment;
 use components::Opening;
 use components::Scheme;
+use components::Spans;
 use components::Texts;
-use numbers::LABELS;
-use numbers::PARAMETERS;
+use numbers::BYTES;
 use numbers::PORT;
-use numbers::SEGMENTS;
+use numbers::SPANS;
 use reader::Port;
 use words::find;
+
+// ---- sizes, with place for every link, its text and its options
+
+// The bytes that a word may say.
+pub const WORD: usize = 8 * BYTES;
+
+// The bytes of the longest room that a call is lent.
+pub const ROOM: usize = 4 * BYTES;
 
 // ---- words. What is wrong with a line is what was wrong first.
 
@@ -262,12 +270,6 @@ pub fn finish(line: &[u8], c: Cursor) -> Fault {
 
 // ---- components, each text and address as two words: its start and its length
 
-// The empty span at 0.
-const NOWHERE: Span = Span {
-    start: 0,
-    length: 0,
-};
-
 struct TakenSpan {
     span: Span,
     rest: Cursor,
@@ -289,55 +291,36 @@ fn take_span(line: &[u8], c: Cursor) -> TakenSpan {
 
 // ---- texts in a row
 
-// How many texts there are, the spans of the first SEGMENTS of them, and the place after the last.
+// How many texts there are, the place in Spans after those that it holds, and the place after the last.
 struct TakenTexts {
     count: usize,
-    spans: [Span; SEGMENTS],
+    end: usize,
     rest: Cursor,
 }
 
-// The texts, each after the name. A text takes more than one byte of the line, so the line is longer than their count.
-fn take_texts(line: &[u8], c: Cursor, name: &[u8]) -> TakenTexts {
-    let mut spans = [NOWHERE; SEGMENTS];
+// The texts, each after the name, with their spans from a place of Spans on, as far as that reaches. A text takes more than one byte of the line,
+// so the line is longer than their count.
+fn take_texts(spans: &mut Spans, from: usize, line: &[u8], c: Cursor, name: &[u8]) -> TakenTexts {
     let mut rest = c;
+    let mut o = from;
     let mut i = 0;
     while i < line.len() && next_is(line, rest, name) {
         let text = take_span(line, skip(line, rest));
         let span = text.span;
         let after = text.rest;
-        if i < SEGMENTS {
-            spans[i] = span;
+        if o < SPANS - 1 {
+            spans[o] = span.start;
+            spans[o + 1] = span.length;
+            o += 2;
         }
         rest = after;
         i += 1;
     }
     TakenTexts {
         count: i,
-        spans: spans,
+        end: o,
         rest: rest,
     }
-}
-
-// The first LABELS of them.
-fn label_spans(spans: [Span; SEGMENTS]) -> [Span; LABELS] {
-    let mut found = [NOWHERE; LABELS];
-    let mut i = 0;
-    while i < LABELS {
-        found[i] = spans[i];
-        i += 1;
-    }
-    found
-}
-
-// The first PARAMETERS of them.
-fn parameter_spans(spans: [Span; SEGMENTS]) -> [Span; PARAMETERS] {
-    let mut found = [NOWHERE; PARAMETERS];
-    let mut i = 0;
-    while i < PARAMETERS {
-        found[i] = spans[i];
-        i += 1;
-    }
-    found
 }
 
 // ---- opening
@@ -397,19 +380,18 @@ fn take_port(line: &[u8], c: Cursor) -> TakenPort {
     }
 }
 
-// An opening, and the spans of its labels.
+// An opening, and the place in Spans after its labels.
 struct TakenOpening {
     opening: Opening,
-    labels: [Span; LABELS],
+    end: usize,
     rest: Cursor,
 }
 
 // An opening without labels.
 fn no_labels(opening: Opening, rest: Cursor) -> TakenOpening {
-    let labels = [NOWHERE; LABELS];
     TakenOpening {
         opening: opening,
-        labels: labels,
+        end: 0,
         rest: rest,
     }
 }
@@ -426,23 +408,21 @@ fn take_address(line: &[u8], c: Cursor, scheme: Scheme) -> TakenOpening {
 }
 
 // The words after `authority` where no address follows.
-fn take_labels(line: &[u8], c: Cursor, scheme: Scheme) -> TakenOpening {
-    let texts = take_texts(line, c, b"label");
-    let spans = texts.spans;
+fn take_labels(spans: &mut Spans, line: &[u8], c: Cursor, scheme: Scheme) -> TakenOpening {
+    let texts = take_texts(spans, 0, line, c, b"label");
     let after = texts.rest;
     let taken = take_port(line, after);
     let port = taken.port;
     let rest = taken.rest;
-    let labels = label_spans(spans);
     TakenOpening {
         opening: Opening::Full(scheme, Authority::Labels(texts.count, port)),
-        labels: labels,
+        end: texts.end,
         rest: rest,
     }
 }
 
 // The words after `scheme`.
-fn take_full(line: &[u8], c: Cursor) -> TakenOpening {
+fn take_full(spans: &mut Spans, line: &[u8], c: Cursor) -> TakenOpening {
     let taken = take_scheme(line, c);
     let scheme = taken.scheme;
     let rest = taken.rest;
@@ -453,7 +433,7 @@ fn take_full(line: &[u8], c: Cursor) -> TakenOpening {
     if next_is(line, host, b"address") {
         return take_address(line, skip(line, host), scheme);
     }
-    take_labels(line, host, scheme)
+    take_labels(spans, line, host, scheme)
 }
 
 // The words after `discard`.
@@ -466,41 +446,46 @@ fn take_discard(line: &[u8], c: Cursor) -> TakenOpening {
     no_labels(Opening::Discard(number.value), rest)
 }
 
-fn take_opening(line: &[u8], c: Cursor) -> TakenOpening {
+fn take_opening(spans: &mut Spans, line: &[u8], c: Cursor) -> TakenOpening {
     if next_is(line, c, b"discard") {
         return take_discard(line, skip(line, c));
     }
     if next_is(line, c, b"scheme") {
-        return take_full(line, skip(line, c));
+        return take_full(spans, line, skip(line, c));
     }
     no_labels(Opening::DiscardAll, refuse(line, c))
 }
 
 // ---- path, query, fragment
 
-// A path or a query, the spans of its first SEGMENTS texts, and the place after it.
+// A path or a query, the place in Spans after its texts, and the place after it.
 struct TakenSlot {
     texts: Texts,
-    spans: [Span; SEGMENTS],
+    end: usize,
     rest: Cursor,
 }
 
 // It begins with its name, and each text with another.
-fn take_slot(line: &[u8], c: Cursor, name: &[u8], text: &[u8]) -> TakenSlot {
+fn take_slot(
+    spans: &mut Spans,
+    from: usize,
+    line: &[u8],
+    c: Cursor,
+    name: &[u8],
+    text: &[u8],
+) -> TakenSlot {
     if next_is(line, c, name) {
-        let taken = take_texts(line, skip(line, c), text);
-        let spans = taken.spans;
+        let taken = take_texts(spans, from, line, skip(line, c), text);
         let rest = taken.rest;
         return TakenSlot {
             texts: Texts::Set(taken.count),
-            spans: spans,
+            end: taken.end,
             rest: rest,
         };
     }
-    let spans = [NOWHERE; SEGMENTS];
     TakenSlot {
         texts: Texts::Unset,
-        spans: spans,
+        end: from,
         rest: c,
     }
 }
@@ -533,30 +518,24 @@ pub struct TakenComponents {
     pub rest: Cursor,
 }
 
-pub fn take_components(line: &[u8], c: Cursor) -> TakenComponents {
-    let first = take_opening(line, c);
+// Their spans go into the array.
+pub fn take_components(spans: &mut Spans, line: &[u8], c: Cursor) -> TakenComponents {
+    let first = take_opening(spans, line, c);
     let opening = first.opening;
-    let labels = first.labels;
     let second = first.rest;
-    let path = take_slot(line, second, b"path", b"segment");
-    let path_texts = path.texts;
-    let segments = path.spans;
+    let path = take_slot(spans, first.end, line, second, b"path", b"segment");
+    let segments = path.texts;
     let third = path.rest;
-    let query = take_slot(line, third, b"query", b"parameter");
-    let query_texts = query.texts;
-    let query_spans = query.spans;
-    let parameters = parameter_spans(query_spans);
+    let query = take_slot(spans, path.end, line, third, b"query", b"parameter");
+    let parameters = query.texts;
     let last = query.rest;
     let taken = take_fragment(line, last);
     let fragment = taken.fragment;
     let rest = taken.rest;
     let components = Components {
         opening: opening,
-        labels: labels,
-        path: path_texts,
-        segments: segments,
-        query: query_texts,
-        parameters: parameters,
+        path: segments,
+        query: parameters,
         fragment: fragment,
     };
     TakenComponents {

@@ -7,16 +7,19 @@ use components::Components;
 use components::Fragment;
 use components::Opening;
 use components::Scheme;
+use components::Spans;
 use components::Texts;
+use components::label_count;
+use components::text_count;
+use components::text_span;
 use numbers::BASE;
-use numbers::LABELS;
-use numbers::PARAMETERS;
-use numbers::SEGMENTS;
+use numbers::SPANS;
 use output::Output;
 use output::add_byte;
 use output::add_hex;
 use output::add_number;
 use output::add_text;
+use output::least;
 use reader::Port;
 use refusals::Refusal;
 use refusals::Verdict;
@@ -43,53 +46,23 @@ fn add_span(out: &mut Output, used: usize, s: &[u8], span: Span) -> usize {
     add_text(out, used, b"? span outside")
 }
 
-// The texts that stand in arrays.
-enum Group {
-    Labels,
-    Segments,
-    Parameters,
-}
-
-fn add_name(out: &mut Output, used: usize, group: Group) -> usize {
-    match group {
-        Group::Labels => add_text(out, used, b" label "),
-        Group::Segments => add_text(out, used, b" segment "),
-        Group::Parameters => add_text(out, used, b" parameter "),
-    }
-}
-
-// One outside of every slice.
-const NOWHERE: Span = Span {
-    start: usize::MAX,
-    length: 1,
-};
-
-// The texts of a group, at most SEGMENTS + 1 of them, so that a count over its array shows.
+// As many texts as a count says, at most SPANS, each after a name: those of Spans from the `first` on.
 fn add_texts(
     out: &mut Output,
     used: usize,
     s: &[u8],
-    c: Components,
-    group: Group,
+    spans: &Spans,
+    first: usize,
     count: usize,
+    name: &[u8],
 ) -> usize {
+    let from = least(first, SPANS);
+    let n = least(count, SPANS);
     let mut at = used;
     let mut i = 0;
-    while i < count {
-        if SEGMENTS < i {
-            return at;
-        }
-        let named = add_name(out, at, group);
-        let span = match group {
-            Group::Labels => if i < LABELS { c.labels[i] } else { NOWHERE },
-            Group::Segments => if i < SEGMENTS { c.segments[i] } else { NOWHERE },
-            Group::Parameters => if i < PARAMETERS {
-                c.parameters[i]
-            } else {
-                NOWHERE
-            },
-        };
-        at = add_span(out, named, s, span);
+    while i < n {
+        let named = add_text(out, at, name);
+        at = add_span(out, named, s, text_span(spans, from + i));
         i += 1;
     }
     at
@@ -123,7 +96,7 @@ fn add_authority(
     out: &mut Output,
     used: usize,
     s: &[u8],
-    c: Components,
+    spans: &Spans,
     authority: Authority,
 ) -> usize {
     match authority {
@@ -135,14 +108,13 @@ fn add_authority(
         }
         Authority::Labels(count, port) => {
             let at = add_text(out, used, b" authority");
-            let end = add_texts(out, at, s, c, Group::Labels, count);
+            let end = add_texts(out, at, s, spans, 0, count, b" label ");
             add_port(out, end, port)
         }
     }
 }
 
-fn add_opening(out: &mut Output, used: usize, s: &[u8], c: Components) -> usize {
-    let opening = c.opening;
+fn add_opening(out: &mut Output, used: usize, s: &[u8], spans: &Spans, opening: Opening) -> usize {
     match opening {
         Opening::Discard(k) => {
             let at = add_text(out, used, b" discard ");
@@ -151,35 +123,32 @@ fn add_opening(out: &mut Output, used: usize, s: &[u8], c: Components) -> usize 
         Opening::DiscardAll => add_text(out, used, b" discard all"),
         Opening::Full(scheme, authority) => {
             let at = add_scheme(out, used, s, scheme);
-            add_authority(out, at, s, c, authority)
+            add_authority(out, at, s, spans, authority)
         }
     }
 }
 
-fn add_path(out: &mut Output, used: usize, s: &[u8], c: Components) -> usize {
-    let path = c.path;
-    match path {
+// A path or a query, whose texts are those of Spans from the `first` on: its name, and each text after its own.
+fn add_slot(
+    out: &mut Output,
+    used: usize,
+    s: &[u8],
+    spans: &Spans,
+    first: usize,
+    texts: Texts,
+    name: &[u8],
+    text: &[u8],
+) -> usize {
+    match texts {
         Texts::Unset => used,
         Texts::Set(count) => {
-            let at = add_text(out, used, b" path");
-            add_texts(out, at, s, c, Group::Segments, count)
+            let at = add_text(out, used, name);
+            add_texts(out, at, s, spans, first, count, text)
         }
     }
 }
 
-fn add_query(out: &mut Output, used: usize, s: &[u8], c: Components) -> usize {
-    let query = c.query;
-    match query {
-        Texts::Unset => used,
-        Texts::Set(count) => {
-            let at = add_text(out, used, b" query");
-            add_texts(out, at, s, c, Group::Parameters, count)
-        }
-    }
-}
-
-fn add_fragment(out: &mut Output, used: usize, s: &[u8], c: Components) -> usize {
-    let fragment = c.fragment;
+fn add_fragment(out: &mut Output, used: usize, s: &[u8], fragment: Fragment) -> usize {
     match fragment {
         Fragment::Unset => used,
         Fragment::Is(span) => {
@@ -190,11 +159,32 @@ fn add_fragment(out: &mut Output, used: usize, s: &[u8], c: Components) -> usize
 }
 
 // Each word after a space.
-pub fn add_components(out: &mut Output, used: usize, s: &[u8], c: Components) -> usize {
-    let path = add_opening(out, used, s, c);
-    let query = add_path(out, path, s, c);
-    let fragment = add_query(out, query, s, c);
-    add_fragment(out, fragment, s, c)
+pub fn add_components(
+    out: &mut Output,
+    used: usize,
+    s: &[u8],
+    spans: &Spans,
+    c: Components,
+) -> usize {
+    let opening = c.opening;
+    let path = c.path;
+    let query = c.query;
+    let fragment = c.fragment;
+    let segments = least(label_count(opening), SPANS);
+    let parameters = segments + least(text_count(path), SPANS);
+    let a = add_opening(out, used, s, spans, opening);
+    let b = add_slot(out, a, s, spans, segments, path, b" path", b" segment ");
+    let d = add_slot(
+        out,
+        b,
+        s,
+        spans,
+        parameters,
+        query,
+        b" query",
+        b" parameter ",
+    );
+    add_fragment(out, d, s, fragment)
 }
 
 // A refusal: its number, and of 1 to 8 its place.

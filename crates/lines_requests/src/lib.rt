@@ -1,6 +1,8 @@
 // The requests. A new one is a function here, a name in `request_of` and a line of `answer`, or of `lend` where it has a room.
 use lines_input::Cursor;
 use lines_input::Fault;
+use lines_input::ROOM;
+use lines_input::WORD;
 use lines_input::finish;
 use lines_input::is_fault;
 use lines_input::take_bytes;
@@ -31,7 +33,11 @@ fn add_fault(out: &mut Output, used: usize, fault: Fault) -> usize {
         Fault::TooLong => add_text(out, used, b"? bytes too long"),
         Fault::NotDecimal => add_text(out, used, b"? not a decimal number"),
         Fault::TooLarge => add_text(out, used, b"? a number over 64 bits"),
-        Fault::RoomTooLarge => add_text(out, used, b"? room over 16384 bytes"),
+        Fault::RoomTooLarge => {
+            let at = add_text(out, used, b"? room over ");
+            let end = add_number(out, at, ROOM as u64);
+            add_text(out, end, b" bytes")
+        }
         Fault::PortTooLarge => add_text(out, used, b"? port over 65535"),
         Fault::Unknown => add_text(out, used, b"? a word that may not stand there"),
         Fault::TooMany => add_text(out, used, b"? too many words"),
@@ -62,7 +68,7 @@ fn add_judgement(out: &mut Output, used: usize, judgement: Judgement) -> usize {
 
 // read HEX
 fn read(out: &mut Output, used: usize, line: &[u8], c: Cursor) -> usize {
-    let mut room = [0u8; 32768];
+    let mut room = [0u8; WORD];
     let bytes = take_bytes(&mut room, line, c);
     let rest = bytes.rest;
     let fault = finish(line, rest);
@@ -71,21 +77,22 @@ fn read(out: &mut Output, used: usize, line: &[u8], c: Cursor) -> usize {
     }
     let n = bytes.length;
     let s = &room[..n];
-    let reading = cri::read(s);
+    let mut spans = [0; cri::SPANS];
+    let reading = cri::read(s, &mut spans);
     let verdict = reading.verdict;
     let components = reading.components;
     match verdict {
         Verdict::Refused(refusal) => add_refusal(out, used, refusal),
         Verdict::Accepted => {
             let at = add_byte(out, used, b'0');
-            add_components(out, at, s, components)
+            add_components(out, at, s, &spans, components)
         }
     }
 }
 
 // segment HEX N
 fn segment(out: &mut Output, used: usize, line: &[u8], c: Cursor) -> usize {
-    let mut room = [0u8; 32768];
+    let mut room = [0u8; WORD];
     let bytes = take_bytes(&mut room, line, c);
     let after = bytes.rest;
     let number = take_number(line, after);
@@ -102,8 +109,8 @@ fn segment(out: &mut Output, used: usize, line: &[u8], c: Cursor) -> usize {
 
 // authority REFERENCE BASE
 fn authority(out: &mut Output, used: usize, line: &[u8], c: Cursor) -> usize {
-    let mut first = [0u8; 32768];
-    let mut second = [0u8; 32768];
+    let mut first = [0u8; WORD];
+    let mut second = [0u8; WORD];
     let taken = take_bytes(&mut first, line, c);
     let after = taken.rest;
     let bytes = take_bytes(&mut second, line, after);
@@ -126,8 +133,8 @@ fn authority(out: &mut Output, used: usize, line: &[u8], c: Cursor) -> usize {
 
 // same HEX HEX
 fn same(out: &mut Output, used: usize, line: &[u8], c: Cursor) -> usize {
-    let mut first = [0u8; 32768];
-    let mut second = [0u8; 32768];
+    let mut first = [0u8; WORD];
+    let mut second = [0u8; WORD];
     let one = take_bytes(&mut first, line, c);
     let after = one.rest;
     let other = take_bytes(&mut second, line, after);
@@ -150,14 +157,15 @@ fn write(
     line: &[u8],
     c: Cursor,
 ) -> usize {
-    let given = take_components(line, c);
+    let mut spans = [0; cri::SPANS];
+    let given = take_components(&mut spans, line, c);
     let rest = given.rest;
     let fault = finish(line, rest);
     if is_fault(fault) {
         return add_fault(out, used, fault);
     }
     let components = given.components;
-    let outcome = cri::write(components, lent, room);
+    let outcome = cri::write(components, &spans, lent, room);
     add_outcome(out, used, room, outcome)
 }
 
@@ -170,7 +178,7 @@ fn resolve(
     line: &[u8],
     c: Cursor,
 ) -> usize {
-    let mut lent = [0u8; 32768];
+    let mut lent = [0u8; WORD];
     let bytes = take_bytes(&mut lent, line, c);
     let rest = bytes.rest;
     let fault = finish(line, rest);
@@ -208,7 +216,7 @@ fn options(
     line: &[u8],
     c: Cursor,
 ) -> usize {
-    let mut lent = [0u8; 32768];
+    let mut lent = [0u8; WORD];
     let bytes = take_bytes(&mut lent, line, c);
     let after = bytes.rest;
     let port = take_number_16(line, after);
@@ -232,8 +240,8 @@ enum Call {
 
 // The words ROOM and HEX, and what the call answers from there on.
 fn lend(out: &mut Output, used: usize, line: &[u8], c: Cursor, call: Call) -> usize {
-    let mut lent = [0u8; 32768];
-    let mut room = [0u8; 16384];
+    let mut lent = [0u8; WORD];
+    let mut room = [0u8; ROOM];
     fill(&mut room);
     let size = take_room(&room, line, c);
     let second = size.rest;

@@ -44,7 +44,7 @@ pub const NONE: u8 = 18;
 // ---- sizes: the largest that is accepted
 
 // 2.1: the bytes of an encoded reference.
-pub const BYTES: usize = 1024;
+pub const BYTES: usize = 4096;
 
 // 1.2, 1.3: the items of a reference, and of one that opens with a discard.
 pub const ITEMS: u64 = 5;
@@ -52,7 +52,7 @@ pub const ITEMS: u64 = 5;
 pub const DISCARD_ITEMS: usize = 4;
 
 // 2.2: the segments of a path.
-pub const SEGMENTS: usize = 32;
+pub const SEGMENTS: usize = 160;
 
 // 2.3: the parameters of a query.
 pub const PARAMETERS: usize = 16;
@@ -78,6 +78,9 @@ pub const SCHEME_BYTES: u64 = 16;
 pub const DISCARD: u64 = 127;
 
 // ---- rooms that are always long enough
+
+// 9.5: the numbers that tell where the labels, segments and parameters of a reference stand, two for each.
+pub const SPANS: usize = 2 * (LABELS + SEGMENTS + PARAMETERS);
 
 // 6.6: the URI text of a reference of n bytes has at most 3n + 13.
 pub const TEXT_ROOM: usize = 3 * BYTES + 13;

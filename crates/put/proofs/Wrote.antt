@@ -29,6 +29,9 @@ wrote-none {l} {i} = record { bytes = refl; place = sym (add-zero i) }
 pub wrote-one : {l : Bytes} {i a : ℕ} → Wrote l i (a ∷ []) (set l i a) (i + 1)
 wrote-one = record { bytes = refl; place = refl }
 
+pub wrote-two : {l : Bytes} {i a b : ℕ} → Wrote l i (a ∷ b ∷ []) (set (set l i a) (i + 1) b) (i + 2)
+wrote-two = record { bytes = simp towards-suc; place = refl }
+
 pub wrote-three : {l : Bytes} {i a b d : ℕ} → Wrote l i (a ∷ b ∷ d ∷ []) (set (set (set l i a) (i + 1) b) (i + 2) d) (i + 3)
 wrote-three = record { bytes = simp towards-suc; place = refl }
 

@@ -1,29 +1,29 @@
 -- What was read is refused, or written as its bytes again.
-use mathlib.Core.Path.{_≡_, refl, sym, ap, _∙_}
+use Prim.Native.Nat.{ℕ}
+use mathlib.Core.Path.{_≡_, refl, sym, ap, ap₂, _∙_}
+use mathlib.Core.List.{List}
+use lib.ListN.{length, drop}
 use Rattle.rules.specs.Bytes.{Bytes, Octets}
 use Rattle.rules.specs.Result.{Res, refused, ok, _>>_}
 use Rattle.rules.specs.Model.{Components, limits}
 use Rattle.rules.specs.Reader.{Found, read}
-use Rattle.rules.specs.Writing.{counted}
 use Rattle.rules.specs.Calls.{readCall, writeCall}
 use Rattle.rules.specs.Views.{verdict}
-use Rattle.rules.proofs.Steps.{ok-at, refused-ok}
-use Rattle.rules.proofs.Standing.{stands, all-counted}
-use Rattle.rules.proofs.RefusalNumbers.{call-accepted, call-refused, accepted}
+use Rattle.rules.proofs.Steps.{refused-ok}
+use Rattle.rules.proofs.RefusalNumbers.{call-accepted, call-refused}
 use Rattle.rules.proofs.RoundTrips.{read-write}
 use Rattle.refusals.specs.declared.Verdict.the-variants as VerdictV
 use Rattle.refusals.specs.Answers.{verdictIs}
 use Rattle.components.specs.declared.Reading.{Reading}
 use Rattle.components.specs.Content.{componentsOf}
-use Rattle.components.specs.Layout.{readingLaid}
+use Rattle.components.specs.Layout.{readingLaid, textNumbers, spansAfter}
 use Rattle.components.proofs.Content.{components-said}
 use Rattle.round_trip.specs.Again.{again}
 
--- the components of an accepted input are said by the struct
-pub said : (bs : Bytes) (c : Components) → Octets bs → readCall limits bs ≡ ok c → componentsOf (readingLaid (ok c) .components) ≡ c
-said bs c h e =
-    let a = accepted limits bs c e in
-    components-said c (sym (ap (counted limits) (a .2)) ∙ all-counted limits bs (a .0) (ok-at (stands limits bs h) (a .1)))
+-- the components of an accepted input are said by the struct and the array
+pub said : (c : Components) (xs : List ℕ) → componentsOf (spansAfter (ok c) xs) (readingLaid (ok c) .components) ≡ c
+unfolding spansAfter
+said c xs = components-said c (drop (length (textNumbers c)) xs)
 
 -- of what reading answers
 module _ (bs : Bytes) (r : Reading) (told : r ≡ readingLaid (readCall limits bs)) where
@@ -52,12 +52,14 @@ module _ (bs : Bytes) (r : Reading) (told : r ≡ readingLaid (readCall limits b
       go (ok c) d = (c, d)
 
   -- which are written as its bytes again
-  pub again-written : Octets bs → r .verdict ≡ VerdictV.Accepted → writeCall limits (componentsOf (r .components)) bs ≡ again limits bs
+  pub again-written : (xs ys : List ℕ) → ys ≡ spansAfter (readCall limits bs) xs → Octets bs → r .verdict ≡ VerdictV.Accepted
+      → writeCall limits (componentsOf ys (r .components)) bs ≡ again limits bs
   unfolding _>>_
-  again-written h e =
+  again-written xs ys left h e =
       let a = accepted-read e in
       let c : Components = a .0 in
-      let same : componentsOf (r .components) ≡ c = ap (λ (x : Reading). componentsOf (x .components)) (told ∙ ap readingLaid (a .1)) ∙ said bs c h (a .1) in
+      let same : componentsOf ys (r .components) ≡ c =
+      ap₂ (λ (l : List ℕ) (x : Reading). componentsOf l (x .components)) (left ∙ ap (λ (m : Res Components). spansAfter m xs) (a .1)) (told ∙ ap readingLaid (a .1)) ∙ said c xs in
       ap (λ (c : Components). writeCall limits c bs) same
       ∙ read-write limits bs c h (a .1)
       ∙ sym (again-told ∙ rw e)

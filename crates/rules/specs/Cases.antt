@@ -1,5 +1,5 @@
 -- RULES 11: the table of small cases, and the other worked examples.
-use Prim.Native.Nat.{ℕ, zero, suc}
+use Prim.Native.Nat.{ℕ, zero, suc, _+_}
 use Prim.Native.String.{String}
 use mathlib.Core.Path.{_≡_}
 use mathlib.Core.Bool.{Bool, true, false}
@@ -9,6 +9,7 @@ use lib.ListN.{replicate}
 use Rattle.rules.specs.Bytes.{Bytes, ascii, hex, concat}
 use Rattle.rules.specs.Result.{Res, refused, ok, _>>=_}
 use Rattle.rules.specs.Model.{Span, limits}
+use Rattle.rules.specs.Head.{Array, headBytes}
 use Rattle.rules.specs.Rules.{labelByte}
 use Rattle.rules.specs.Reader.{Found, read}
 use Rattle.rules.specs.Meaning.{span}
@@ -281,13 +282,13 @@ accepted =
     ∷ accepts (hex "82 00 82 64 F0 90 80 80 64 F4 8F BF BF")
     ∷ []
 
--- the sizes in force, RULES 2.1 and 2.2: an input that is too long, one that is not; 33 segments, and 32
+-- the sizes in force, RULES 2.1 and 2.2, whatever they are: an input that is too long, one that is not; a segment too many, and as many as may be
 unfoldable pub sizes : List Refusal
 sizes =
-    record { input = replicate 1025 0; number = 4; place = 1024 }
-    ∷ record { input = replicate 1024 0; number = 2; place = 0 }
-    ∷ refusedAt "82 00 98 21" 4 2
-    ∷ accepts (hex "82 00 98 20" ++ row 32)
+    record { input = replicate (limits .bytes + 1) 0; number = 4; place = limits .bytes }
+    ∷ record { input = replicate (limits .bytes) 0; number = 2; place = 0 }
+    ∷ record { input = hex "82 00" ++ headBytes Array (limits .segments + 1); number = 4; place = 2 }
+    ∷ accepts (hex "82 00" ++ headBytes Array (limits .segments) ++ row (limits .segments))
     ∷ []
 
 -- ---- 11.8: texts

@@ -88,7 +88,7 @@ pub record Limits : Type 0 where
 
 -- the sizes in force
 abbrev pub limits : Limits
-limits = record { bytes = 1024; segments = 32 }
+limits = record { bytes = 4096; segments = 160 }
 
 -- 2.3: how many parameters a query may have
 abbrev pub mostParameters : ℕ

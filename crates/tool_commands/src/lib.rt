@@ -124,13 +124,14 @@ fn say_uri_text(before: &[u8], s: &[u8]) -> Verdict {
 
 // The components, and the URI text; or the refusal.
 fn show(s: &[u8]) {
-    let reading = cri::read(s);
+    let mut spans = [0; cri::SPANS];
+    let reading = cri::read(s, &mut spans);
     let verdict = reading.verdict;
     let components = reading.components;
     match verdict {
         Verdict::Refused(refusal) => say_refusal(libc::STDOUT_FILENO, b"HEX", s, refusal),
         Verdict::Accepted => {
-            say_components(s, components);
+            say_components(s, &spans, components);
             say_uri_text(b"text      ", s);
         }
     }
@@ -172,7 +173,8 @@ fn say_cri(s: &[u8]) {
 // A refused base, and which of the two it is: refused by the reader too, or not absolute.
 fn refuse_base(base: &[u8], refusal: Refusal) {
     refuse(b"BASE", base, refusal);
-    let reading = cri::read(base);
+    let mut spans = [0; cri::SPANS];
+    let reading = cri::read(base, &mut spans);
     let verdict = reading.verdict;
     match verdict {
         Verdict::Accepted => warn(b"read by itself it is accepted: it is not absolute\n"),

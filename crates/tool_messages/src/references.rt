@@ -11,10 +11,13 @@ use components::Components;
 use components::Fragment;
 use components::Opening;
 use components::Scheme;
+use components::Spans;
 use components::Texts;
-use numbers::LABELS;
-use numbers::PARAMETERS;
-use numbers::SEGMENTS;
+use components::label_count;
+use components::text_count;
+use components::text_span;
+use numbers::SPANS;
+use output::least;
 use reader::Port;
 
 // ---- texts
@@ -42,30 +45,13 @@ fn say_address_span(s: &[u8], span: Span) {
     say(b"\n");
 }
 
-// The texts that stand in arrays.
-enum Group {
-    Labels,
-    Segments,
-    Parameters,
-}
-
-// How many texts a group has, and the end of the line.
-fn say_size(group: Group, count: u64) {
-    match group {
-        Group::Labels => say_count(count, b"label"),
-        Group::Segments => say_count(count, b"segment"),
-        Group::Parameters => say_count(count, b"parameter"),
-    }
+// How many texts of this name there are, and the end of the line.
+fn say_size(count: u64, name: &[u8]) {
+    say_count(count, name);
     say(b"\n");
 }
 
-// The empty span at 0.
-const NOWHERE: Span = Span {
-    start: 0,
-    length: 0,
-};
-
-// One text of a group, counted from 0.
+// One text, counted from 0.
 fn say_numbered(s: &[u8], i: usize, span: Span) {
     if i < 10 {
         say(b" ");
@@ -76,21 +62,14 @@ fn say_numbered(s: &[u8], i: usize, span: Span) {
     say_span(s, span);
 }
 
-// How many texts there are, and each on a line of its own.
-fn say_texts(s: &[u8], c: Components, group: Group, count: usize) {
-    say_size(group, count as u64);
+// How many texts of this name there are, and each, at most SPANS, on a line of its own: those of Spans from the `first` on.
+fn say_texts(s: &[u8], spans: &Spans, first: usize, count: usize, name: &[u8]) {
+    say_size(count as u64, name);
+    let from = least(first, SPANS);
+    let n = least(count, SPANS);
     let mut i = 0;
-    while i < count {
-        let span = match group {
-            Group::Labels => if i < LABELS { c.labels[i] } else { NOWHERE },
-            Group::Segments => if i < SEGMENTS { c.segments[i] } else { NOWHERE },
-            Group::Parameters => if i < PARAMETERS {
-                c.parameters[i]
-            } else {
-                NOWHERE
-            },
-        };
-        say_numbered(s, i, span);
+    while i < n {
+        say_numbered(s, i, text_span(spans, from + i));
         i += 1;
     }
 }
@@ -137,7 +116,7 @@ fn say_port(port: Port) {
     }
 }
 
-fn say_authority(s: &[u8], c: Components, authority: Authority) {
+fn say_authority(s: &[u8], spans: &Spans, authority: Authority) {
     say(b"host      ");
     match authority {
         Authority::Unset => say(b"unset\n"),
@@ -146,31 +125,30 @@ fn say_authority(s: &[u8], c: Components, authority: Authority) {
             say_port(port)
         }
         Authority::Labels(count, port) => {
-            say_texts(s, c, Group::Labels, count);
+            say_texts(s, spans, 0, count, b"label");
             say_port(port)
         }
     }
 }
 
-fn say_opening(s: &[u8], c: Components) {
-    let opening = c.opening;
+fn say_opening(s: &[u8], spans: &Spans, opening: Opening) {
     match opening {
         Opening::Discard(k) => {
             say(b"discard   ");
-            say_size(Group::Segments, k)
+            say_size(k, b"segment")
         }
         Opening::DiscardAll => say(b"discard   all segments\n"),
         Opening::Full(scheme, authority) => {
             say_scheme(s, scheme);
-            say_authority(s, c, authority)
+            say_authority(s, spans, authority)
         }
     }
 }
 
-fn say_slot(s: &[u8], c: Components, group: Group, texts: Texts) {
+fn say_slot(s: &[u8], spans: &Spans, first: usize, texts: Texts, name: &[u8]) {
     match texts {
         Texts::Unset => say(b"unset\n"),
-        Texts::Set(count) => say_texts(s, c, group, count),
+        Texts::Set(count) => say_texts(s, spans, first, count, name),
     }
 }
 
@@ -184,14 +162,17 @@ fn say_fragment(s: &[u8], fragment: Fragment) {
 
 // ---- the whole
 
-pub fn say_components(s: &[u8], c: Components) {
+pub fn say_components(s: &[u8], spans: &Spans, c: Components) {
+    let opening = c.opening;
     let path = c.path;
     let query = c.query;
     let fragment = c.fragment;
-    say_opening(s, c);
+    let segments = least(label_count(opening), SPANS);
+    let parameters = segments + least(text_count(path), SPANS);
+    say_opening(s, spans, opening);
     say(b"path      ");
-    say_slot(s, c, Group::Segments, path);
+    say_slot(s, spans, segments, path, b"segment");
     say(b"query     ");
-    say_slot(s, c, Group::Parameters, query);
+    say_slot(s, spans, parameters, query, b"parameter");
     say_fragment(s, fragment);
 }

@@ -4,7 +4,7 @@ use native.Mathlib.Omega.{arith}
 use mathlib.Core.Path.{_≡_, refl, sym, ap, _∙_}
 use mathlib.Core.List.{[], _++_}
 use lib.ListN.{length, length-append}
-use lib.Seq.{sets}
+use lib.Seq.{sets, length-sets}
 use Rattle.rules.specs.Bytes.{Bytes}
 use Rattle.rules.specs.Model.{limits}
 use Rattle.put.specs.Wrote.{Wrote}
@@ -38,6 +38,10 @@ added-as {a} {b} {v} {w} {G} {H} {i} {k} there back e p =
 -- the same bytes, said in another way
 pub added-bytes : {a b v w : Bytes} {G : Type 0} {i k : ℕ} → v ≡ w → Added a i G v b k → Added a i G w b k
 added-bytes e = added-as (λ g. g) (λ g. g) (λ _. e)
+
+-- the room is as long as before
+pub added-size : {a b w : Bytes} {Good : Type 0} {i k : ℕ} → Added a i Good w b k → k ≤ limits .bytes → length b ≡ length a
+added-size {a} {b} {w} {Good} {i} {k} p h = ap length (p .bytes (p .good h) (p .fits h)) ∙ length-sets a i w
 
 -- two pieces
 pub added-then : {a b c v w : Bytes} {G H : Type 0} {i j k : ℕ} → Added a i G v b j → Added b j H w c k → Added a i (G × H) (v ++ w) c k

@@ -1,27 +1,31 @@
 -- The items of an encoding as they are added, and when RULES 9.2 lets them be.
-use Prim.Native.Nat.{ℕ, zero, suc, _+_, _≤_, _<_}
+use Prim.Native.Nat.{ℕ, zero, suc, _+_, _-_, _≤_, _<_}
+use native.Mathlib.Nat.{add-zero}
 use native.Mathlib.Omega.{arith}
-use mathlib.Core.Path.{_≡_, refl, sym, ap, _∙_}
+use mathlib.Core.Path.{_≡_, refl, sym, ap, ap₂, _∙_}
 use mathlib.Core.Bool.{true, _&&_}
 use mathlib.Core.List.{List, [], _∷_, _++_, append-assoc, append-nil, map}
 use mathlib.Core.Option.{Option, none, some, Option·map}
 use lib.ListN.{length, drop, getD, length-append, length-map}
+use lib.Seq.{getD-drop, drop-drop}
 use lib.Dec.{leb, lit≤}
 use borrow.Author.Tests.{leb-true, le-leb}
 use Rattle.rules.specs.Bytes.{Bytes, all, concat}
 use Rattle.rules.specs.Head.{Kind, Number, ByteString, Array, headBytes}
-use Rattle.rules.specs.Model.{Scheme, Authority, Host, address, labels, Opening, discard, discardAll, full, Span, Components, elements, limits}
+use Rattle.rules.specs.Model.{Scheme, Authority, Host, address, labels, Opening, discard, discardAll, full, Span, Components, elements, limits, mostLabels, mostParameters}
 use Rattle.rules.specs.Reader.{taken}
 use Rattle.rules.specs.Encode.{textItem, arrayItem, textsItem, nullItem, orNull, tailItems, portItems, hostItems, authorityItem, discardAlone, withOpening}
-use Rattle.rules.specs.Writing.{hostTexts, schemeTexts, whereSet, openingTexts, openingLabels, counted, inside, Lie}
+use Rattle.rules.specs.Writing.{hostTexts, schemeTexts, whereSet, openingTexts, openingLabels, allTexts, counted, inside, Lie}
 use Rattle.rules.proofs.Tools.{and-left, and-right, and-both, length-part, concat-append}
 use Rattle.rules.proofs.Standing.{none-lie, both-lie}
-use Rattle.cbor.specs.declared.Span as Code
-use Rattle.cbor.specs.Heads.{spanIs}
-use Rattle.rules.specs.Views.{nowhere}
-use Rattle.components.specs.Layout.{spanLaid}
-use Rattle.components.specs.Content.{spansOf}
-use Rattle.writer.specs.AddedItems.{Few, AuthorityMay, OpeningMay, TailMay, May, stringItem, textItems, authorityItems, discardItems, openingItems, fragmentItems}
+use Rattle.components.specs.declared.Components as Whole
+use Rattle.components.specs.declared.Opening as First
+use Rattle.components.specs.declared.Opening.the-variants as OpeningV
+use Rattle.components.specs.declared.Authority.the-variants as AuthorityV
+use Rattle.components.specs.declared.Texts.{Texts}
+use Rattle.components.specs.declared.Texts.the-variants as TextsV
+use Rattle.components.specs.Content.{spansOf, openingOf, textsOf, labelCount, textCount, pathPlace, queryPlace, componentsOf}
+use Rattle.writer.specs.AddedItems.{TailMay, stringItem, textItems, authorityItems, discardItems, openingItems, fragmentItems}
 
 -- an item by itself
 pub one-item : (x : Bytes) → x ≡ concat (x ∷ [])
@@ -70,33 +74,28 @@ unfolding stringItem
 string-said k lent s e = ap (λ (n : ℕ). headBytes k n ++ taken lent s) (sym (length-taken lent s e))
 
 -- those of an array: as many as were asked for
-pub length-spansOf : (n : ℕ) (xs : List Code.Span) → length (spansOf n xs) ≡ n
+pub length-spansOf : (n : ℕ) (xs : List ℕ) → length (spansOf n xs) ≡ n
 unfolding spansOf
 length-spansOf zero xs = refl
-length-spansOf (suc n) [] = ap suc (length-spansOf n [])
-length-spansOf (suc n) (x ∷ xs) = ap suc (length-spansOf n xs)
+length-spansOf (suc n) xs = ap suc (length-spansOf n (drop 2 xs))
 
--- the i-th of them, and those after it
-pub drop-spansOf : (n : ℕ) (xs : List Code.Span) (i j : ℕ) → i < n → j ≡ suc i
-    → drop i (spansOf n xs) ≡ spanIs (getD xs i (spanLaid nowhere)) ∷ drop j (spansOf n xs)
+-- the first of those from a place on, and those after it
+pub spans-next : (xs : List ℕ) (i n : ℕ) → 0 < n
+    → spansOf n (drop i xs) ≡ record { start = getD xs i 0; length = getD xs (i + 1) 0 } ∷ spansOf (n - 1) (drop (i + 2) xs)
 unfolding spansOf
-drop-spansOf n xs i j h d = at n xs i h ∙ ap (λ (k : ℕ). spanIs (getD xs i (spanLaid nowhere)) ∷ drop k (spansOf n xs)) (sym d)
-  where
-    at : (n : ℕ) (xs : List Code.Span) (i : ℕ) → i < n → drop i (spansOf n xs) ≡ spanIs (getD xs i (spanLaid nowhere)) ∷ drop (suc i) (spansOf n xs)
-    at zero xs i h = absurd (omega arith)
-    at (suc n) [] zero h = refl
-    at (suc n) [] (suc i) h = at n [] i (omega arith)
-    at (suc n) (y ∷ xs) zero h = refl
-    at (suc n) (y ∷ xs) (suc i) h = at n xs i (omega arith)
+spans-next xs i zero h = absurd (omega arith)
+spans-next xs i (suc n) h =
+    let less : suc n - 1 ≡ n = omega arith in
+    ap₂ _∷_ (λ k. record { start = (getD-drop i xs 0 0 ∙ ap (λ (j : ℕ). getD xs j 0) (add-zero i)) k; length = getD-drop i xs 1 0 k })
+    (ap (spansOf n) (drop-drop 2 i xs) ∙ ap (λ (m : ℕ). spansOf m (drop (i + 2) xs)) (sym less))
 
-pub few-most : (lent : Bytes) (most n : ℕ) (xs : List Code.Span) → Few lent most (spansOf n xs) → n ≤ most
-few-most lent most n xs g = omega (arith, length-spansOf n xs, leb-true (length (spansOf n xs)) most (g .0))
-
-pub few : (lent : Bytes) (most n : ℕ) (xs : List Code.Span) → n ≤ most → Lie lent (spansOf n xs) → Few lent most (spansOf n xs)
-few lent most n xs h g = (le-leb (length (spansOf n xs)) most (omega (arith, length-spansOf n xs)), g)
+pub spans-end : (xs : List ℕ) (i n : ℕ) → n ≤ 0 → spansOf n (drop i xs) ≡ []
+unfolding spansOf
+spans-end xs i zero h = refl
+spans-end xs i (suc n) h = absurd (omega arith)
 
 -- an array of n texts
-pub texts-said : (lent : Bytes) (n : ℕ) (xs : List Code.Span) → headBytes Array n ++ textItems lent (spansOf n xs) ≡ textsItem (map (taken lent) (spansOf n xs))
+pub texts-said : (lent : Bytes) (n : ℕ) (xs : List ℕ) → headBytes Array n ++ textItems lent (spansOf n xs) ≡ textsItem (map (taken lent) (spansOf n xs))
 unfolding textItems textsItem arrayItem
 texts-said lent n xs =
     let ts : List Span = spansOf n xs in
@@ -125,7 +124,7 @@ pub address-said : (a : Bytes) (p : Option ℕ) (n : ℕ) → n ≡ length (port
 unfolding hostItems stringItem
 address-said a p n e = authority-said (address a) p (1 + n) _ (ap (λ (m : ℕ). 1 + m) e) (one-item _)
 
-pub labels-said : (lent : Bytes) (n : ℕ) (xs : List Code.Span) (p : Option ℕ) (m : ℕ) → m ≡ length (portItems p)
+pub labels-said : (lent : Bytes) (n : ℕ) (xs : List ℕ) (p : Option ℕ) (m : ℕ) → m ≡ length (portItems p)
     → (headBytes Array (n + m) ++ textItems lent (spansOf n xs)) ++ concat (portItems p) ≡ authorityItem (record { host = labels (map (taken lent) (spansOf n xs)); port = p })
 unfolding hostItems textItems
 labels-said lent n xs p m e =
@@ -209,16 +208,19 @@ with-opening (full s none) [] = refl
 with-opening (full s none) (x ∷ xs) = refl
 with-opening (full s (some a)) xs = refl
 
--- a scheme and an authority may be added exactly where the opening may
+-- a scheme and an authority lie inside exactly where the opening does
 module _ (lent : Bytes) (s : Option (Scheme Span)) (a : Option (Authority Span)) where
-  pub opening-may : Lie lent (whereSet schemeTexts s) × AuthorityMay lent a → OpeningMay lent (full s a)
-  opening-may g = (g .1 .0, both-lie lent (whereSet schemeTexts s) (whereSet (λ a. hostTexts (a .host)) a) (g .0) (g .1 .1))
+  abbrev schemeSpans : List Span
+  schemeSpans = whereSet schemeTexts s
 
-  pub opening-each : OpeningMay lent (full s a) → Lie lent (whereSet schemeTexts s) × AuthorityMay lent a
-  opening-each g = (
-    first-lie lent (whereSet schemeTexts s) (whereSet (λ a. hostTexts (a .host)) a) (g .1),
-    (g .0, second-lie lent (whereSet schemeTexts s) (whereSet (λ a. hostTexts (a .host)) a) (g .1)),
-  )
+  abbrev hostSpans : List Span
+  hostSpans = whereSet (λ a. hostTexts (a .host)) a
+
+  pub opening-lies : Lie lent schemeSpans × Lie lent hostSpans → Lie lent (openingTexts (full s a))
+  opening-lies g = both-lie lent schemeSpans hostSpans (g .0) (g .1)
+
+  pub opening-each : Lie lent (openingTexts (full s a)) → Lie lent schemeSpans × Lie lent hostSpans
+  opening-each g = (first-lie lent schemeSpans hostSpans g, second-lie lent schemeSpans hostSpans g)
 
 -- ---- path, query, fragment
 
@@ -227,25 +229,25 @@ abbrev tail : Bytes → Option (List Span) → Option (List Span) → Option Spa
 tail lent p q f = tailItems (Option·map (map (taken lent)) p) (Option·map (map (taken lent)) q) (Option·map (taken lent) f)
 
 -- when they may be added
-abbrev May3 : Bytes → Option (List Span) → Option (List Span) → Option Span → Type 0
-May3 lent p q f = Few lent (limits .segments) (elements p) × Few lent 16 (elements q) × Lie lent (whereSet (λ t. t ∷ []) f)
+abbrev May : Bytes → Option (List Span) → Option (List Span) → Option Span → Type 0
+May lent p q f = Lie lent (elements p) × Lie lent (elements q) × Lie lent (whereSet (λ t. t ∷ []) f)
 
 module _ (lent : Bytes) where
   -- none of them is set
-  pub tail-none : (p q : Option (List Span)) (f : Option Span) → length (tail lent p q f) ≡ 0 → ([] ≡ concat (tail lent p q f)) × May3 lent p q f
+  pub tail-none : (p q : Option (List Span)) (f : Option Span) → length (tail lent p q f) ≡ 0 → ([] ≡ concat (tail lent p q f)) × May lent p q f
   unfolding tailItems concat
   tail-none p q (some f) e = absurd (omega arith)
   tail-none p (some q) none e = absurd (omega arith)
   tail-none (some p) none none e = absurd (omega arith)
-  tail-none none none none e = (refl, ((refl, none-lie lent), (refl, none-lie lent), none-lie lent))
+  tail-none none none none e = (refl, (none-lie lent, none-lie lent, none-lie lent))
 
   -- the path alone
   pub tail-one : (p q : Option (List Span)) (f : Option Span) → length (tail lent p q f) ≡ 1
-      → (orNull textsItem (Option·map (map (taken lent)) p) ≡ concat (tail lent p q f)) × (Few lent (limits .segments) (elements p) → May3 lent p q f)
+      → (orNull textsItem (Option·map (map (taken lent)) p) ≡ concat (tail lent p q f)) × (Lie lent (elements p) → May lent p q f)
   unfolding tailItems orNull
   tail-one p q (some f) e = absurd (omega arith)
   tail-one p (some q) none e = absurd (omega arith)
-  tail-one (some p) none none e = (one-item _, λ g. (g, (refl, none-lie lent), none-lie lent))
+  tail-one (some p) none none e = (one-item _, λ g. (g, none-lie lent, none-lie lent))
   tail-one none none none e = absurd (omega arith)
 
   -- the path, the query, and the fragment where it is set
@@ -269,29 +271,55 @@ encode-said o xs n m e d =
     ∙ ap (λ (k : ℕ). headBytes Array k ++ concat (ys ++ xs)) (omega (arith, d, e, length-append ys xs))
     ∙ ap arrayItem (ap (λ (k : ℕ). openingItems o k ++ xs) e ∙ sym (with-opening o xs))
 
--- the opening and the rest may be added exactly where all may
-pub all-may : (lent : Bytes) (c : Components) → OpeningMay lent (c .opening) × TailMay lent c → May lent c
-unfolding counted
-all-may lent c g =
-    let o = g .0 in
-    let t = g .1 in (
-      and-both _ _ (o .0) (and-both _ _ (t .0 .0) (t .1 .0)),
-      both-lie lent _ _ (both-lie lent _ _ (both-lie lent (openingTexts (c .opening)) (elements (c .path)) (o .1) (t .0 .1)) (t .1 .1)) (t .2),
-    )
+-- the opening and the rest lie inside exactly where all texts do
+module _ (lent : Bytes) (c : Components) where
+  abbrev o : List Span
+  o = openingTexts (c .opening)
 
-pub each-may : (lent : Bytes) (c : Components) → May lent c → OpeningMay lent (c .opening) × TailMay lent c
+  abbrev p : List Span
+  p = elements (c .path)
+
+  abbrev q : List Span
+  q = elements (c .query)
+
+  abbrev f : List Span
+  f = whereSet (λ (t : Span). t ∷ []) (c .fragment)
+
+  pub all-lie : Lie lent o × TailMay lent c → Lie lent (allTexts c)
+  all-lie g = both-lie lent (o ++ p ++ q) f (both-lie lent (o ++ p) q (both-lie lent o p (g .0) (g .1 .0)) (g .1 .1)) (g .1 .2)
+
+  pub each-lies : Lie lent (allTexts c) → Lie lent o × TailMay lent c
+  each-lies g =
+      let opq = first-lie lent (o ++ p ++ q) f g in
+      let op = first-lie lent (o ++ p) q opq in
+      (first-lie lent o p op, (second-lie lent o p op, second-lie lent (o ++ p) q opq, second-lie lent (o ++ p ++ q) f g))
+
+-- ---- RULES 9.2: counts
+
+labels-counted : (xs : List ℕ) (o : First.Opening) → length (openingLabels (openingOf xs o)) ≡ labelCount o
+labels-counted xs (OpeningV.Discard k) = refl
+labels-counted xs OpeningV.DiscardAll = refl
+labels-counted xs (OpeningV.Full s AuthorityV.Unset) = refl
+labels-counted xs (OpeningV.Full s (AuthorityV.Address a p)) = refl
+labels-counted xs (OpeningV.Full s (AuthorityV.Labels n p)) = length-spansOf n xs
+
+texts-counted : (xs : List ℕ) (t : Texts) → length (elements (textsOf xs t)) ≡ textCount t
+texts-counted xs TextsV.Unset = refl
+texts-counted xs (TextsV.Set n) = length-spansOf n xs
+
+-- what the array says does not count
+pub counted-by : (xs : List ℕ) (c : Whole.Components)
+    → counted limits (componentsOf xs c) ≡ (leb (labelCount (c .opening)) mostLabels && (leb (textCount (c .path)) (limits .segments) && leb (textCount (c .query)) mostParameters))
 unfolding counted
-each-may lent c g =
-    let n = leb (length (openingLabels (c .opening))) 8 in
-    let m = leb (length (elements (c .path))) (limits .segments) in
-    let k = leb (length (elements (c .query))) 16 in
-    let rest = and-right n (m && k) (g .0) in
-    let o = openingTexts (c .opening) in
-    let p = elements (c .path) in
-    let q = elements (c .query) in
-    let f = whereSet (λ (t : Span). t ∷ []) (c .fragment) in
-    let opq = first-lie lent (o ++ p ++ q) f (g .1) in
-    let op = first-lie lent (o ++ p) q opq in (
-      (and-left n (m && k) (g .0), first-lie lent o p op),
-      ((and-left m k rest, second-lie lent o p op), (and-right m k rest, second-lie lent (o ++ p) q opq), second-lie lent (o ++ p ++ q) f (g .1)),
-    )
+counted-by xs c = rw (labels-counted xs (c .opening), texts-counted (drop (pathPlace c) xs) (c .path), texts-counted (drop (queryPlace c) xs) (c .query)) refl
+
+-- no count is over its size
+pub counted-each : (xs : List ℕ) (c : Whole.Components) → counted limits (componentsOf xs c) ≡ true
+    → (labelCount (c .opening) ≤ mostLabels) × (textCount (c .path) ≤ limits .segments) × (textCount (c .query) ≤ mostParameters)
+counted-each xs c e =
+    let l = leb (labelCount (c .opening)) mostLabels in
+    let p = leb (textCount (c .path)) (limits .segments) in
+    let q = leb (textCount (c .query)) mostParameters in
+    let each = sym (counted-by xs c) ∙ e in
+    let rest = and-right l (p && q) each in
+    (leb-true _ _ (and-left l (p && q) each), leb-true _ _ (and-left p q rest), leb-true _ _ (and-right p q rest))

@@ -2,9 +2,9 @@
 use Prim.Native.Nat.{ℕ, _≤_, _<_}
 use native.Mathlib.Omega.{arith}
 use mathlib.Core.Path.{_≡_, refl, sym, ap, _∙_}
-use mathlib.Core.Bool.{Bool}
+use mathlib.Core.Bool.{Bool, true, false}
 use lib.ListN.{length, take, drop}
-use lib.Seq.{length-sets, take-at}
+use lib.Seq.{take-at}
 use lib.Dec.{leb}
 use borrow.Author.Tests.{lt-leb, leb-true, leb-false}
 use Rattle.rules.specs.Bytes.{Bytes, all}
@@ -12,13 +12,12 @@ use Rattle.rules.specs.Result.{refused, ok, need, _>>_, LIMIT}
 use Rattle.rules.specs.Model.{Components, mapParts, limits}
 use Rattle.rules.specs.Reader.{taken, Found, read}
 use Rattle.rules.specs.Encode.{encode}
-use Rattle.rules.specs.Writing.{counted, inside, allTexts, placeless}
+use Rattle.rules.specs.Writing.{counted, inside, allTexts, Lie, placeless}
 use Rattle.rules.specs.Calls.{writeCall}
 use Rattle.rules.proofs.Steps.{need-no}
 use Rattle.rules.proofs.Tools.{by-test}
 use Rattle.put.proofs.Wrote.{wrote-all}
 use Rattle.writer.specs.Added.{Added}
-use Rattle.writer.specs.AddedItems.{May}
 
 -- RULES 4.1: an encoding over the largest is 4
 long-refused : (bs : Bytes) → limits .bytes < length bs → read limits bs ≡ refused LIMIT (limits .bytes)
@@ -29,33 +28,32 @@ module _ (lent : Bytes) (c : Components) where
   abbrev w : Bytes
   w = encode (mapParts (taken lent) c)
 
-  pub call-refused : (k j : ℕ) → May lent c → read limits w ≡ refused k j → writeCall limits c lent ≡ refused k 0
+  -- 9.2: a count over its size
+  pub call-uncounted : counted limits c ≡ false → writeCall limits c lent ≡ refused LIMIT 0
   unfolding writeCall need _>>_
-  call-refused k j g e = rw (g .0, g .1, e)
+  call-uncounted e = rw e refl
 
-  pub call-written : (f : Found) → May lent c → read limits w ≡ ok f → writeCall limits c lent ≡ ok w
+  pub call-refused : (k j : ℕ) → counted limits c ≡ true → Lie lent (allTexts c) → read limits w ≡ refused k j → writeCall limits c lent ≡ refused k 0
   unfolding writeCall need _>>_
-  call-written f g e = rw (g .0, g .1, e)
+  call-refused k j n g e = rw (n, g, e)
 
-  pub call-over : (May lent c → length w ≤ limits .bytes → ⊥) → writeCall limits c lent ≡ refused LIMIT 0
+  pub call-written : (f : Found) → counted limits c ≡ true → Lie lent (allTexts c) → read limits w ≡ ok f → writeCall limits c lent ≡ ok w
   unfolding writeCall need _>>_
-  call-over never =
-      by-test (λ (t : Bool). (need t LIMIT 0 >> (need (all (inside lent) (allTexts c)) LIMIT 0 >> (placeless (read limits w) >> ok w))) ≡ refused LIMIT 0) (counted limits c)
-      (λ n. by-test (λ (t : Bool). (need t LIMIT 0 >> (placeless (read limits w) >> ok w)) ≡ refused LIMIT 0) (all (inside lent) (allTexts c))
+  call-written f n g e = rw (n, g, e)
+
+  pub call-over : counted limits c ≡ true → (Lie lent (allTexts c) → length w ≤ limits .bytes → ⊥) → writeCall limits c lent ≡ refused LIMIT 0
+  unfolding writeCall need _>>_
+  call-over n never =
+      rw n (by-test (λ (t : Bool). (need t LIMIT 0 >> (placeless (read limits w) >> ok w)) ≡ refused LIMIT 0) (all (inside lent) (allTexts c))
       (λ i. by-test (λ (t : Bool). leb (length w) (limits .bytes) ≡ t → (placeless (read limits w) >> ok w) ≡ refused LIMIT 0) (leb (length w) (limits .bytes))
-      (λ _ e. absurd (never (n, i) (leb-true (length w) (limits .bytes) e)))
+      (λ _ e. absurd (never i (leb-true (length w) (limits .bytes) e)))
       (λ _ e. rw (long-refused w (leb-false (length w) (limits .bytes) e))) refl)
       (λ _. refl))
-      (λ _. refl)
 
   -- where all may be added and fits, the array holds the encoding
-  pub made : {room after : Bytes} {n : ℕ} → length room ≡ limits .bytes → n ≤ limits .bytes → Added room 0 (May lent c) w after n → (n ≡ length w) × (take n after ≡ w)
+  pub made : {room after : Bytes} {n : ℕ} → length room ≡ limits .bytes → n ≤ limits .bytes → Added room 0 (Lie lent (allTexts c)) w after n → (n ≡ length w) × (take n after ≡ w)
   made {room} {after} {n} size h p =
       let g = p .good h in
       let f = p .fits h in
       let all = wrote-all {a = room} {b = after} {w = w} {k = n} (record { bytes = p .bytes g f; place = p .place g f }) (omega arith) in
       (all .0, ap (take n) (all .1) ∙ take-at w (drop (length w) room) n (sym (all .0)))
-
-  -- and is as long as before
-  pub made-size : {room after : Bytes} {n : ℕ} → length room ≡ limits .bytes → n ≤ limits .bytes → Added room 0 (May lent c) w after n → length after ≡ limits .bytes
-  made-size {room} {after} {n} size h p = ap length (p .bytes (p .good h) (p .fits h)) ∙ length-sets room 0 w ∙ size

@@ -1,47 +1,28 @@
 -- The items of an encoding (rules, specs/Encode) as they are added one after the other, and when RULES 9.2 lets them be.
 use Prim.Native.Nat.{ℕ, zero, suc}
-use mathlib.Core.Path.{_≡_}
-use mathlib.Core.Bool.{true}
 use mathlib.Core.List.{List, [], _∷_, _++_, map}
 use mathlib.Core.Option.{Option, none, some}
 use lib.ListN.{length}
-use lib.Dec.{leb}
 use Rattle.rules.specs.Bytes.{Bytes, concat}
 use Rattle.rules.specs.Head.{Kind, Number, headBytes}
-use Rattle.rules.specs.Model.{Authority, Opening, discard, discardAll, full, Span, Parts, Reference, mapParts, elements, limits, mostLabels, mostParameters}
+use Rattle.rules.specs.Model.{Authority, Opening, discard, discardAll, full, Span, Parts, Reference, mapParts, elements}
 use Rattle.rules.specs.Reader.{taken}
 use Rattle.rules.specs.Encode.{textItem, nullItem, trueItem, orNull, authorityItem, schemeItem, discardAlone, tailItems}
-use Rattle.rules.specs.Writing.{labelsOf, hostTexts, whereSet, openingTexts, openingLabels, allTexts, counted, Lie}
+use Rattle.rules.specs.Writing.{whereSet, Lie}
 use Rattle.components.specs.declared.Components.{Components}
 use Rattle.components.specs.Content.{componentsOf}
 
 -- ---- when they may be added
 
--- 9.2: at most `most`, and they lie inside
-abbrev pub Few : Bytes → ℕ → List Span → Type 0
-Few lent most ts = (leb (length ts) most ≡ true) × Lie lent ts
-
--- the same of an authority
-abbrev pub AuthorityMay : Bytes → Option (Authority Span) → Type 0
-AuthorityMay lent a = (leb (length (whereSet (λ a. labelsOf (a .host)) a)) mostLabels ≡ true) × Lie lent (whereSet (λ a. hostTexts (a .host)) a)
-
--- the same of an opening
-abbrev pub OpeningMay : Bytes → Opening Span → Type 0
-OpeningMay lent o = (leb (length (openingLabels o)) mostLabels ≡ true) × Lie lent (openingTexts o)
-
--- the same of path, query and fragment
+-- 9.2: path, query and fragment lie inside the lent bytes
 abbrev pub TailMay : Bytes → Parts Span → Type 0
-TailMay lent c = Few lent (limits .segments) (elements (c .path)) × Few lent mostParameters (elements (c .query)) × Lie lent (whereSet (λ t. t ∷ []) (c .fragment))
-
--- the same of all
-abbrev pub May : Bytes → Parts Span → Type 0
-May lent c = (counted limits c ≡ true) × Lie lent (allTexts c)
+TailMay lent c = Lie lent (elements (c .path)) × Lie lent (elements (c .query)) × Lie lent (whereSet (λ t. t ∷ []) (c .fragment))
 
 -- ---- items
 
--- the reference that components say, with their bytes
-abbrev pub saidBy : Bytes → Components → Reference
-saidBy lent c = mapParts (taken lent) (componentsOf c)
+-- the reference that components and their spans say, with the bytes
+abbrev pub saidBy : Bytes → List ℕ → Components → Reference
+saidBy lent xs c = mapParts (taken lent) (componentsOf xs c)
 
 -- its items after the opening
 abbrev pub tailOf : Reference → List Bytes

@@ -1,25 +1,24 @@
 // Writing a CRI reference from components. The encoding is made in an array of its own, judged by the reader, and then copied into the lent room.
-ghost use Prim.Native.Nat.{_≤_};
+ghost use Prim.Native.Nat.{ℕ, _+_, _*_, _≤_};
 ghost use mathlib.Core.Path.{_≡_};
 ghost use mathlib.Core.Bool.{true};
 ghost use mathlib.Core.List.{List, [], _∷_, map};
 ghost use mathlib.Core.Option.{Option·map};
-ghost use lib.ListN.{length};
+ghost use lib.ListN.{length, drop};
 ghost use Rattle.rules.specs.Bytes.{Bytes, concat};
 ghost use Rattle.rules.specs.Head.{headBytes};
 ghost use Rattle.rules.specs.Model as Model;
-ghost use Rattle.rules.specs.Model.{address, mapScheme, mapAuthority, mapOpening, elements, limits, mostLabels, mostParameters};
+ghost use Rattle.rules.specs.Model.{address, mapScheme, mapAuthority, mapOpening, elements, limits, mostLabels};
 ghost use Rattle.rules.specs.Reader.{taken};
 ghost use Rattle.rules.specs.Encode.{textsItem, nullItem, orNull, tailItems, portItems, authorityItem, schemeItem, encode};
-ghost use Rattle.rules.specs.Writing.{schemeTexts, whereSet, inside, Lie};
+ghost use Rattle.rules.specs.Writing.{schemeTexts, hostTexts, whereSet, openingTexts, allTexts, counted, inside, Lie};
 ghost use Rattle.rules.specs.Calls.{outcome, after, writeCall};
 ghost use Rattle.cbor.specs.Heads.{kindIs, spanIs};
-ghost use Rattle.cbor.specs.declared.Span as Code;
 ghost use Rattle.reader.specs.Answers.{portOf};
 ghost use Rattle.outcomes.specs.Answers.{outcomeIs};
-ghost use Rattle.components.specs.Content.{spansOf, schemeOf, authorityOf, openingOf, textsOf, fragmentOf, componentsOf};
+ghost use Rattle.components.specs.Content.{spansOf, schemeOf, authorityOf, openingOf, textsOf, fragmentOf, mostNumbers, hostCount, labelCount, textCount, componentsOf};
 ghost use Rattle.writer.specs.Added.{Added};
-ghost use Rattle.writer.specs.AddedItems.{Few, AuthorityMay, OpeningMay, TailMay, May, saidBy, tailOf, stringItem, textItems, authorityItems, discardItems, openingItems, fragmentItems};
+ghost use Rattle.writer.specs.AddedItems.{TailMay, saidBy, tailOf, stringItem, textItems, authorityItems, discardItems, openingItems, fragmentItems};
 use cbor::Kind;
 use cbor::Span;
 use components::Authority;
@@ -27,7 +26,10 @@ use components::Components;
 use components::Fragment;
 use components::Opening;
 use components::Scheme;
+use components::Spans;
 use components::Texts;
+use components::label_count;
+use components::text_count;
 use numbers::BYTES;
 use numbers::LABELS;
 use numbers::LIMIT;
@@ -45,7 +47,7 @@ use schemes::scheme_number;
 // An encoding, and zeros after it.
 type Encoding = [u8; BYTES];
 
-// A place over the largest encoding: what was to be added does not fit, stands outside the lent bytes, or has a count over its size.
+// A place over the largest encoding: what was to be added does not fit, or stands outside the lent bytes.
 const OVER: usize = BYTES + 1;
 
 // ---- pieces: each is added at a place, and answers the place after it
@@ -94,56 +96,29 @@ fn add_null(out: &mut Encoding, at: usize) -> usize
 
 // ---- texts in a row
 
-// The first n labels.
-fn add_labels(out: &mut Encoding, at: usize, lent: &[u8], labels: [Span; LABELS], n: usize) -> usize
-    requires { ⌜ n ≤ mostLabels ⌝ }
-    ensures { λ r. ⌜ Added (now (out .entry)) at (Lie (now (lent .entry)) (spansOf n labels)) (textItems (now (lent .entry)) (spansOf n labels)) (now (out .exit)) r ⌝ }
-{
-    let mut next = at;
-    let mut i = 0;
-    while i < n {
-        next = add_string(out, next, Kind::Text, lent, labels[i]);
-        i += 1;
-    }
-    next
-}
-
-// The same of segments.
-fn add_segments(
+// n texts, whose spans stand in the array from a place on.
+fn add_texts(
     out: &mut Encoding,
     at: usize,
     lent: &[u8],
-    segments: [Span; SEGMENTS],
+    spans: &Spans,
+    from: usize,
     n: usize,
 ) -> usize
-    requires { ⌜ n ≤ limits .segments ⌝ }
-    ensures { λ r. ⌜ Added (now (out .entry)) at (Lie (now (lent .entry)) (spansOf n segments)) (textItems (now (lent .entry)) (spansOf n segments)) (now (out .exit)) r ⌝ }
+    requires { ⌜ from + 2 * n ≤ mostNumbers ⌝ }
+    ensures { λ r. ⌜ Added (now (out .entry)) at (Lie (now (lent .entry)) (spansOf n (drop from (now (spans .entry))))) (textItems (now (lent .entry)) (spansOf n (drop from (now (spans .entry))))) (now (out .exit)) r ⌝ }
 {
     let mut next = at;
-    let mut i = 0;
-    while i < n {
-        next = add_string(out, next, Kind::Text, lent, segments[i]);
-        i += 1;
-    }
-    next
-}
-
-// The same of parameters.
-fn add_parameters(
-    out: &mut Encoding,
-    at: usize,
-    lent: &[u8],
-    parameters: [Span; PARAMETERS],
-    n: usize,
-) -> usize
-    requires { ⌜ n ≤ mostParameters ⌝ }
-    ensures { λ r. ⌜ Added (now (out .entry)) at (Lie (now (lent .entry)) (spansOf n parameters)) (textItems (now (lent .entry)) (spansOf n parameters)) (now (out .exit)) r ⌝ }
-{
-    let mut next = at;
-    let mut i = 0;
-    while i < n {
-        next = add_string(out, next, Kind::Text, lent, parameters[i]);
-        i += 1;
+    let mut i = from;
+    let mut left = n;
+    while 0 < left {
+        let span = Span {
+            start: spans[i],
+            length: spans[i + 1],
+        };
+        next = add_string(out, next, Kind::Text, lent, span);
+        i += 2;
+        left -= 1;
     }
     next
 }
@@ -200,22 +175,20 @@ fn add_address(out: &mut Encoding, at: usize, lent: &[u8], span: Span, port: Por
     add_port(out, after, port)
 }
 
-// The first n labels and a port.
+// The first n texts of the array as labels, and a port.
 fn add_name(
     out: &mut Encoding,
     at: usize,
     lent: &[u8],
-    labels: [Span; LABELS],
+    spans: &Spans,
     n: usize,
     port: Port,
 ) -> usize
-    ensures { λ r. ⌜ Added (now (out .entry)) at (Few (now (lent .entry)) mostLabels (spansOf n labels)) (authorityItem (record { host = Model.labels (map (taken (now (lent .entry))) (spansOf n labels)); port = portOf port })) (now (out .exit)) r ⌝ }
+    requires { ⌜ n ≤ mostLabels ⌝ }
+    ensures { λ r. ⌜ Added (now (out .entry)) at (Lie (now (lent .entry)) (spansOf n (now (spans .entry)))) (authorityItem (record { host = Model.labels (map (taken (now (lent .entry))) (spansOf n (now (spans .entry)))); port = portOf port })) (now (out .exit)) r ⌝ }
 {
-    if LABELS < n {
-        return OVER;
-    }
     let host = add_head(out, at, Kind::Array, n as u64 + port_items(port));
-    let after = add_labels(out, host, lent, labels, n);
+    let after = add_texts(out, host, lent, spans, 0, n);
     add_port(out, after, port)
 }
 
@@ -224,16 +197,17 @@ fn add_authority(
     out: &mut Encoding,
     at: usize,
     lent: &[u8],
+    spans: &Spans,
     authority: Authority,
-    labels: [Span; LABELS],
     further: u64,
 ) -> usize
-    ensures { λ r. ⌜ Added (now (out .entry)) at (AuthorityMay (now (lent .entry)) (authorityOf labels authority)) (concat (authorityItems (Option·map (mapAuthority (taken (now (lent .entry)))) (authorityOf labels authority)) further)) (now (out .exit)) r ⌝ }
+    requires { ⌜ hostCount authority ≤ mostLabels ⌝ }
+    ensures { λ r. ⌜ Added (now (out .entry)) at (Lie (now (lent .entry)) (whereSet (λ a. hostTexts (a .host)) (authorityOf (now (spans .entry)) authority))) (concat (authorityItems (Option·map (mapAuthority (taken (now (lent .entry)))) (authorityOf (now (spans .entry)) authority)) further)) (now (out .exit)) r ⌝ }
 {
     match authority {
         Authority::Unset => if further == 0 { at } else { add_null(out, at) },
         Authority::Address(span, port) => add_address(out, at, lent, span, port),
-        Authority::Labels(n, port) => add_name(out, at, lent, labels, n, port),
+        Authority::Labels(n, port) => add_name(out, at, lent, spans, n, port),
     }
 }
 
@@ -264,24 +238,25 @@ fn add_opening(
     out: &mut Encoding,
     at: usize,
     lent: &[u8],
+    spans: &Spans,
     opening: Opening,
-    labels: [Span; LABELS],
     further: u64,
 ) -> usize
-    ensures { λ r. ⌜ Added (now (out .entry)) at (OpeningMay (now (lent .entry)) (openingOf labels opening)) (concat (openingItems (mapOpening (taken (now (lent .entry))) (openingOf labels opening)) further)) (now (out .exit)) r ⌝ }
+    requires { ⌜ labelCount opening ≤ mostLabels ⌝ }
+    ensures { λ r. ⌜ Added (now (out .entry)) at (Lie (now (lent .entry)) (openingTexts (openingOf (now (spans .entry)) opening))) (concat (openingItems (mapOpening (taken (now (lent .entry))) (openingOf (now (spans .entry)) opening)) further)) (now (out .exit)) r ⌝ }
 {
     match opening {
         Opening::Discard(k) => add_discard(out, at, k, further),
         Opening::DiscardAll => add_head(out, at, Kind::True, 21),
         Opening::Full(scheme, authority) => {
             let next = add_scheme(out, at, lent, scheme);
-            add_authority(out, next, lent, authority, labels, further)
+            add_authority(out, next, lent, spans, authority, further)
         }
     }
 }
 
 fn authority_items(authority: Authority, further: u64) -> u64
-    ensures { λ r. ⌜ ((lent : Bytes) (labels : List Code.Span) → r ≡ length (authorityItems (Option·map (mapAuthority (taken lent)) (authorityOf labels authority)) further)) ⌝ }
+    ensures { λ r. ⌜ ((lent : Bytes) (xs : List ℕ) → r ≡ length (authorityItems (Option·map (mapAuthority (taken lent)) (authorityOf xs authority)) further)) ⌝ }
 {
     match authority {
         Authority::Unset => if further == 0 { 0 } else { 1 },
@@ -292,7 +267,7 @@ fn authority_items(authority: Authority, further: u64) -> u64
 
 // How many items an opening is before `further` items.
 fn opening_items(opening: Opening, further: u64) -> u64
-    ensures { λ r. ⌜ ((lent : Bytes) (labels : List Code.Span) → r ≡ length (openingItems (mapOpening (taken lent) (openingOf labels opening)) further)) ⌝ }
+    ensures { λ r. ⌜ ((lent : Bytes) (xs : List ℕ) → r ≡ length (openingItems (mapOpening (taken lent) (openingOf xs opening)) further)) ⌝ }
 {
     match opening {
         Opening::Discard(k) => discard_items(k, further),
@@ -303,44 +278,23 @@ fn opening_items(opening: Opening, further: u64) -> u64
 
 // ---- path, query, fragment
 
-fn add_path(
+// A path or a query, whose spans stand in the array from a place on.
+fn add_slot(
     out: &mut Encoding,
     at: usize,
     lent: &[u8],
-    path: Texts,
-    segments: [Span; SEGMENTS],
+    spans: &Spans,
+    from: usize,
+    texts: Texts,
 ) -> usize
-    ensures { λ r. ⌜ Added (now (out .entry)) at (Few (now (lent .entry)) (limits .segments) (elements (textsOf segments path))) (orNull textsItem (Option·map (map (taken (now (lent .entry)))) (textsOf segments path))) (now (out .exit)) r ⌝ }
+    requires { ⌜ from + 2 * textCount texts ≤ mostNumbers ⌝ }
+    ensures { λ r. ⌜ Added (now (out .entry)) at (Lie (now (lent .entry)) (elements (textsOf (drop from (now (spans .entry))) texts))) (orNull textsItem (Option·map (map (taken (now (lent .entry)))) (textsOf (drop from (now (spans .entry))) texts))) (now (out .exit)) r ⌝ }
 {
-    match path {
+    match texts {
         Texts::Unset => add_null(out, at),
         Texts::Set(n) => {
-            if SEGMENTS < n {
-                return OVER;
-            }
             let first = add_head(out, at, Kind::Array, n as u64);
-            add_segments(out, first, lent, segments, n)
-        }
-    }
-}
-
-fn add_query(
-    out: &mut Encoding,
-    at: usize,
-    lent: &[u8],
-    query: Texts,
-    parameters: [Span; PARAMETERS],
-) -> usize
-    ensures { λ r. ⌜ Added (now (out .entry)) at (Few (now (lent .entry)) mostParameters (elements (textsOf parameters query))) (orNull textsItem (Option·map (map (taken (now (lent .entry)))) (textsOf parameters query))) (now (out .exit)) r ⌝ }
-{
-    match query {
-        Texts::Unset => add_null(out, at),
-        Texts::Set(n) => {
-            if PARAMETERS < n {
-                return OVER;
-            }
-            let first = add_head(out, at, Kind::Array, n as u64);
-            add_parameters(out, first, lent, parameters, n)
+            add_texts(out, first, lent, spans, from, n)
         }
     }
 }
@@ -356,7 +310,7 @@ fn add_fragment(out: &mut Encoding, at: usize, lent: &[u8], fragment: Fragment) 
 
 // How many items follow the opening: what is unset at the end is left off.
 fn further_items(path: Texts, query: Texts, fragment: Fragment) -> u64
-    ensures { λ r. ⌜ ((lent : Bytes) (segments parameters : List Code.Span) → r ≡ length (tailItems (Option·map (map (taken lent)) (textsOf segments path)) (Option·map (map (taken lent)) (textsOf parameters query)) (Option·map (taken lent) (fragmentOf fragment)))) ⌝ }
+    ensures { λ r. ⌜ ((lent : Bytes) (xs ys : List ℕ) → r ≡ length (tailItems (Option·map (map (taken lent)) (textsOf xs path)) (Option·map (map (taken lent)) (textsOf ys query)) (Option·map (taken lent) (fragmentOf fragment)))) ⌝ }
 {
     match fragment {
         Fragment::Is(_) => 3,
@@ -371,33 +325,58 @@ fn further_items(path: Texts, query: Texts, fragment: Fragment) -> u64
 }
 
 // The first `further` of path, query and fragment.
-fn add_further(out: &mut Encoding, at: usize, lent: &[u8], c: Components, further: u64) -> usize
-    requires { ⌜ further ≡ length (tailOf (saidBy (now lent) c)) ⌝ }
-    ensures { λ r. ⌜ Added (now (out .entry)) at (TailMay (now (lent .entry)) (componentsOf c)) (concat (tailOf (saidBy (now (lent .entry)) c))) (now (out .exit)) r ⌝ }
+fn add_further(
+    out: &mut Encoding,
+    at: usize,
+    lent: &[u8],
+    spans: &Spans,
+    c: Components,
+    further: u64,
+) -> usize
+    requires { ⌜ further ≡ length (tailOf (saidBy (now lent) (now spans) c)) ⌝ }
+    requires { ⌜ counted limits (componentsOf (now spans) c) ≡ true ⌝ }
+    ensures { λ r. ⌜ Added (now (out .entry)) at (TailMay (now (lent .entry)) (componentsOf (now (spans .entry)) c)) (concat (tailOf (saidBy (now (lent .entry)) (now (spans .entry)) c))) (now (out .exit)) r ⌝ }
 {
+    let opening = c.opening;
     let path = c.path;
-    let segments = c.segments;
     let query = c.query;
-    let parameters = c.parameters;
     let fragment = c.fragment;
     if further == 0 {
         return at;
     }
-    let after_path = add_path(out, at, lent, path, segments);
+    let segments = 2 * label_count(opening);
+    let after_path = add_slot(out, at, lent, spans, segments, path);
     if further == 1 {
         return after_path;
     }
-    let after_query = add_query(out, after_path, lent, query, parameters);
+    let parameters = segments + 2 * text_count(path);
+    let after_query = add_slot(out, after_path, lent, spans, parameters, query);
     add_fragment(out, after_query, lent, fragment)
 }
 
 // ---- the whole
 
-fn add_reference(out: &mut Encoding, lent: &[u8], c: Components) -> usize
-    ensures { λ r. ⌜ Added (now (out .entry)) 0 (May (now (lent .entry)) (componentsOf c)) (encode (saidBy (now (lent .entry)) c)) (now (out .exit)) r ⌝ }
+// 9.2: whether no count is over its size.
+fn is_counted(c: Components) -> bool
+    ensures { λ r. ⌜ ((xs : List ℕ) → r ≡ counted limits (componentsOf xs c)) ⌝ }
 {
     let opening = c.opening;
-    let labels = c.labels;
+    let path = c.path;
+    let query = c.query;
+    if LABELS < label_count(opening) {
+        return false;
+    }
+    if SEGMENTS < text_count(path) {
+        return false;
+    }
+    text_count(query) <= PARAMETERS
+}
+
+fn add_reference(out: &mut Encoding, lent: &[u8], spans: &Spans, c: Components) -> usize
+    requires { ⌜ counted limits (componentsOf (now spans) c) ≡ true ⌝ }
+    ensures { λ r. ⌜ Added (now (out .entry)) 0 (Lie (now (lent .entry)) (allTexts (componentsOf (now (spans .entry)) c))) (encode (saidBy (now (lent .entry)) (now (spans .entry)) c)) (now (out .exit)) r ⌝ }
+{
+    let opening = c.opening;
     let path = c.path;
     let query = c.query;
     let fragment = c.fragment;
@@ -408,17 +387,20 @@ fn add_reference(out: &mut Encoding, lent: &[u8], c: Components) -> usize
         Kind::Array,
         opening_items(opening, further) + further,
     );
-    let next = add_opening(out, first, lent, opening, labels, further);
-    add_further(out, next, lent, c, further)
+    let next = add_opening(out, first, lent, spans, opening, further);
+    add_further(out, next, lent, spans, c, further)
 }
 
 // The answer, and the encoding in the room.
-pub fn write(c: Components, lent: &[u8], room: &mut [u8]) -> Outcome
-    ensures { λ r. ⌜ outcomeIs r ≡ outcome (writeCall limits (componentsOf c) (now (lent .entry))) (length (now (room .entry))) ⌝ }
-    ensures { λ _. ⌜ now (room .exit) ≡ after (writeCall limits (componentsOf c) (now (lent .entry))) (now (room .entry)) ⌝ }
+pub fn write(c: Components, spans: &Spans, lent: &[u8], room: &mut [u8]) -> Outcome
+    ensures { λ r. ⌜ outcomeIs r ≡ outcome (writeCall limits (componentsOf (now (spans .entry)) c) (now (lent .entry))) (length (now (room .entry))) ⌝ }
+    ensures { λ _. ⌜ now (room .exit) ≡ after (writeCall limits (componentsOf (now (spans .entry)) c) (now (lent .entry))) (now (room .entry)) ⌝ }
 {
+    if !is_counted(c) {
+        return outcomes::refused(LIMIT, 0);
+    }
     let mut made = [0u8; BYTES];
-    let n = add_reference(&mut made, lent, c);
+    let n = add_reference(&mut made, lent, spans, c);
     if BYTES < n {
         return outcomes::refused(LIMIT, 0);
     }

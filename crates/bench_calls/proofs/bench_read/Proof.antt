@@ -26,10 +26,13 @@ told : (bs : Bytes) (r : Reading) (v : Verdict) → r ≡ readingLaid (readCall 
 told bs r v e g = ap packedVerdict (sym g ∙ ap (λ (x : Reading). x .verdict) e) ∙ laid (readCall limits bs)
 
 returns : tie.Need-returns
-returns c = told _ _ _ (c .before .before .read .ensures) (c .enum-told .given .1)
+returns c = let m = c .before .before .read .ensures in (told _ _ _ (m .0) (c .enum-told .given .1), m .1)
 
 returns-2 : tie.Need-returns-2
-returns-2 c = c .refusal-packed .ensures ∙ told _ _ _ (c .before .before .before .before .read .ensures) (c .before .before .verdict .given .1)
+returns-2 c =
+    let v = c .before .before in
+    let m = v .before .before .read .ensures in
+    (c .refusal-packed .ensures ∙ told _ _ _ (m .0) (v .verdict .given .1), m .1)
 
 pub bench-read-spec : {M : Type 1} → statement M
 bench-read-spec =

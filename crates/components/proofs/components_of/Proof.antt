@@ -1,5 +1,4 @@
 -- `components::components_of` meets its contract, field by field.
-use denote.Ref.{now}
 use Rattle.rules.specs.Meaning.{components}
 use borrow.Author.Needs.{needs}
 use Rattle.components.proofs.components_of.Statement.{statement}
@@ -7,28 +6,14 @@ use Rattle.components.proofs.components_of.Tie as tie
 
 returns : tie.Need-returns
 unfolding components
-returns c =
-    let a = c .before .before .before .before in
-    let bs = now (a .before .before .before .before .args .s) in
-    λ i. record {
-      opening = c .before .before .before .opening-of .ensures bs i;
-      labels = a .before .before .labels-of .ensures i;
-      path = c .before .before .texts-of .ensures bs i;
-      segments = a .before .segments-of .ensures i;
-      query = c .before .texts-of2 .ensures bs i;
-      parameters = a .parameters-of .ensures i;
-      fragment = c .fragment-of .ensures i;
-    }
+returns c = λ bs i. record {
+  opening = c .before .before .before .opening-of .ensures bs i;
+  path = c .before .before .texts-of .ensures bs i;
+  query = c .before .texts-of2 .ensures bs i;
+  fragment = c .fragment-of .ensures i;
+}
 
 pub components-of-spec : {M : Type 1} → statement M
 components-of-spec =
     tie.close
-    (tie.spec
-    (λ c κs. search needs)
-    (λ c κs. search needs)
-    (λ c κs. search needs)
-    (λ c κs. search needs)
-    (λ c κs. search needs)
-    (λ c κs. search needs)
-    (λ c κs. search needs)
-    returns)
+    (tie.spec (λ c κs. search needs) (λ c κs. search needs) (λ c κs. search needs) (λ c κs. search needs) returns)

@@ -1,33 +1,31 @@
 -- `components::labels_of` meets its contract.
-use Rattle.rules.specs.Reader.{spans}
+use mathlib.Core.Path.{refl, sym, ap}
 use borrow.Author.Needs.{needs}
 use Rattle.components.proofs.labels_of.Statement.{statement}
 use Rattle.components.proofs.labels_of.Tie as tie
 
-host-labels-requires : tie.Need-host-labels-requires
-host-labels-requires c κs = (rw (c .before .opening .given .1) at (c .before .before .before .before .pre)) .1
-
 returns : tie.Need-returns
-unfolding spans
-returns c = simp (c .before .enum-told .given .1) (c .label-spans .ensures)
+returns c = rw (c .enum-told .given .1) (λ bs. refl, λ bs h. tt)
 
 returns-2 : tie.Need-returns-2
-unfolding spans
-returns-2 c = simp (c .before .enum-told2 .given .1) (c .label-spans2 .ensures)
+returns-2 c = rw (c .enum-told2 .given .1) (λ bs. refl, λ bs h. tt)
 
 returns-3 : tie.Need-returns-3
-returns-3 c = simp (c .before .before .opening .given .1) (c .host-labels .ensures)
+returns-3 c = rw (c .before .before .before .opening .given .1, c .enum-told3 .given .1) (λ bs. refl, λ bs h. tt)
+
+returns-4 : tie.Need-returns-4
+returns-4 c = rw (c .before .before .before .before .opening .given .1, c .before .host .given .1) (λ bs. refl, λ bs h. h .1)
 
 pub labels-of-spec : {M : Type 1} → statement M
 labels-of-spec =
     tie.close
     (tie.spec
     (λ c. search needs)
-    (λ c κs. search needs)
     (λ c. search needs)
-    (λ c κs. search needs)
     (λ c. search needs)
-    host-labels-requires
+    (λ c. search needs)
+    (λ c. search needs)
     returns
     returns-2
-    returns-3)
+    returns-3
+    returns-4)

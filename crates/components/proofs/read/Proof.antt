@@ -9,28 +9,37 @@ use Rattle.rules.proofs.Tools.{octets-of}
 use Rattle.rules.specs.Model.{limits}
 use Rattle.refusals.specs.declared.Verdict.the-variants as VerdictV
 use Rattle.reader.specs.Answers.{answerIs}
-use Rattle.components.specs.Layout.{readingLaid}
+use Rattle.components.specs.Layout.{readingLaid, spansAfter}
 use borrow.Author.Needs.{needs}
 use Rattle.components.proofs.read.Statement.{statement}
 use Rattle.components.proofs.read.Tie as tie
 
-components-of-requires : tie.Need-components-of-requires
-components-of-requires c κs =
-    let m = c .before .before .before in
+put-found-requires : tie.Need-put-found-requires
+put-found-requires c κs =
+    let m = c .before .before .before .before in
     let s = now (m .before .before .args .s) in
-    ok-at (stands limits s (octets-of s (λ i. omega (arith, m .before .shared-slice-known .given i)))) (sym (m .read .ensures) ∙ ap answerIs (c .before .found .given .1))
+    ok-at (stands limits s (octets-of s (λ i. omega (arith, m .before .shared-slice-known .given i)))) (sym (m .read .ensures) ∙ ap answerIs (c .before .before .found .given .1))
 
 returns : tie.Need-returns
 returns c =
-    let m = c .before .before .before .before in
-    (λ i. record { verdict = VerdictV.Accepted; components = c .components-of .ensures i })
-    ∙ ap readingLaid (call-accepted limits (now (m .before .before .args .s)) _ (sym (m .read .ensures) ∙ ap answerIs (c .before .before .found .given .1)))
+    let f = c .before .before .before .before in
+    let m = f .before .before in
+    let s = now (m .before .before .args .s) in
+    let e = call-accepted limits s _ (sym (m .read .ensures) ∙ ap answerIs (f .found .given .1)) in (
+      (λ i. record { verdict = VerdictV.Accepted; components = c .components-of .ensures s i }) ∙ ap readingLaid e,
+      c .before .put-found .ensures ∙ ap (λ u. spansAfter u (now (m .before .before .args .spans))) e,
+    )
 
 returns-2 : tie.Need-returns-2
+unfolding spansAfter
 returns-2 c =
-    let m = c .before .before .before .before in
-    (λ i. record { verdict = VerdictV.Refused (c .before .before .refusal .given .0 .0); components = c .no-components .ensures i })
-    ∙ ap readingLaid (call-refused limits (now (m .before .before .args .s)) _ _ (sym (m .read .ensures) ∙ ap answerIs (c .before .before .refusal .given .1)))
+    let f = c .before .before in
+    let m = f .before .before in
+    let s = now (m .before .before .args .s) in
+    let e = call-refused limits s _ _ (sym (m .read .ensures) ∙ ap answerIs (f .refusal .given .1)) in (
+      (λ i. record { verdict = VerdictV.Refused (f .refusal .given .0 .0); components = c .no-components .ensures i }) ∙ ap readingLaid e,
+      ap (λ u. spansAfter u (now (m .before .before .args .spans))) e,
+    )
 
 pub read-spec : {M : Type 1} → statement M
 read-spec =
@@ -38,7 +47,8 @@ read-spec =
     (tie.spec
     (λ c κs. search needs)
     (λ c. search needs)
-    components-of-requires
+    put-found-requires
+    (λ c κs. search needs)
     (λ c. search needs)
     (λ c κs. search needs)
     returns

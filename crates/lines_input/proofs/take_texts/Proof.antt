@@ -6,10 +6,10 @@ use Rattle.lines_input.proofs.take_texts.Statement.{statement}
 use Rattle.lines_input.proofs.take_texts.Tie as tie
 
 abbrev Inv-loop : tie.InvT-loop
-Inv-loop line name spans₀ rest₀ i₀ spans rest i = i ≤ length line
+Inv-loop spans₀ from line name rest₀ o₀ i₀ spans rest o i = i ≤ length line
 
 abbrev μ-loop : tie.MeasureT-loop
-μ-loop line name spans₀ rest₀ i₀ spans rest i = length line - i
+μ-loop spans₀ from line name rest₀ o₀ i₀ spans rest o i = length line - i
 
 pub take-texts-spec : {M : Type 1} → statement M
 take-texts-spec =
@@ -21,6 +21,11 @@ take-texts-spec =
     (λ c κs. search needs)
     (λ c κs. search needs)
     (λ c κs. search needs)
+    (λ c. search needs)
+    (λ c. search needs)
+    (λ c. search needs)
+    (λ c. search needs)
+    (λ c. search needs)
     (λ c. search needs)
     (λ c. search needs)
     (λ c. search needs)

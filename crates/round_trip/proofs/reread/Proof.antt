@@ -7,8 +7,7 @@ use lib.Seq.{length-take-le}
 use denote.Ref.{now}
 use Rattle.rules.specs.Model.{limits}
 use Rattle.rules.specs.Calls.{readCall}
-use Rattle.rules.proofs.Tools.{octets-of}
-use Rattle.components.specs.Layout.{readingLaid}
+use Rattle.components.specs.Layout.{readingLaid, spansAfter}
 use Rattle.round_trip.specs.declared.ReadBack.{ReadBack}
 use Rattle.round_trip.proofs.Rereading.{components-sized, length-within, same-contents}
 use borrow.Author.Needs.{needs}
@@ -16,7 +15,7 @@ use Rattle.round_trip.proofs.reread.Statement.{statement}
 use Rattle.round_trip.proofs.reread.Tie as tie
 
 -- the length written lies inside the room
-inside : (c : tie.After-written) → c .written .result ≤ length (c .before .before .before .write .last .1 .1 .0)
+inside : (c : tie.After-written) → c .written .result ≤ length (c .before .before .before .write .last .1 .1 .1 .0)
 inside c =
     let w = c .before .before .before in
     omega (arith, c .written .ensures, length-within _ _ _ (w .write .ensures .0))
@@ -29,23 +28,23 @@ slice-aggregate-read c = sym (length-take-le _ _ (omega (arith, inside (c .befor
 
 returns : tie.Need-returns
 returns c =
-    let n = c .before .before in
-    let k = n .before in
-    let w = k .before .before in
+    let n = c .before .before .before in
+    let w = n .before .before .before in
     let start = w .before .before .before .before in
     let args = start .args in
-    let left = w .write .last .1 .1 .0 in
-    let sized = components-sized (args .components) (start .good .0) in
-    let octets = octets-of left (λ i. omega (arith, k .slice-known2 .given i)) in
-    let told = c .read .ensures ∙ ap (λ (m : ℕ). readingLaid (readCall limits (take m left))) (n .written .ensures) in
+    let left = w .write .last .1 .1 .1 .0 in
+    let xs = now (args .spans) in
+    let sized = components-sized xs (args .components) (start .good .0) in
+    let reads = c .read .ensures in
+    let told = reads .0 ∙ ap (λ (m : ℕ). readingLaid (readCall limits (take m left))) (n .written .ensures) in
+    let stored = reads .1 ∙ ap (λ (m : ℕ). spansAfter (readCall limits (take m left)) (now (args .found))) (n .written .ensures) in
     let r : ReadBack = record { written = w .write .result; reading = c .read .result } in
     record {
       written = w .write .ensures .0;
       left = w .write .ensures .1;
       reading = told;
-      back =
-          same-contents _ (now (args .lent)) (now (args .room)) left r sized (start .good .1 .0 .0) octets
-          (w .write .ensures) told;
+      spans = stored;
+      back = same-contents (args .components) xs (now (args .lent)) (now (args .room)) left r _ _ sized (start .good .1 .1 .0 .0) (w .write .ensures) told stored;
     }
 
 pub reread-spec : {M : Type 1} → statement M

@@ -1,51 +1,96 @@
 -- `writer::write` meets its contract.
+use Prim.Native.Nat.{_≤_}
 use native.Mathlib.Omega.{arith}
-use mathlib.Core.Path.{refl, sym, ap, _∙_}
+use mathlib.Core.Path.{_≡_, refl, sym, ap, _∙_}
+use mathlib.Core.Bool.{true}
+use lib.ListN.{take}
 use denote.Ref.{now}
 use lib.Seq.{length-take-le}
-use Rattle.rules.specs.Model.{limits}
-use Rattle.rules.specs.Reader.{read}
+use borrow.Author.Tests.{not-true, not-false}
+use Rattle.rules.specs.Bytes.{Bytes}
+use Rattle.rules.specs.Model.{Components, limits, mapParts}
+use Rattle.rules.specs.Reader.{taken, read}
+use Rattle.rules.specs.Encode.{encode}
+use Rattle.rules.specs.Writing.{allTexts, counted, Lie}
 use Rattle.rules.specs.Result.{ok}
 use Rattle.reader.specs.Answers.{answerIs}
 use Rattle.components.specs.Content.{componentsOf}
 use Rattle.outcomes.proofs.Answers.{right-refused, right-as}
-use Rattle.writer.proofs.CallCases.{call-refused, call-written, call-over, made, made-size}
+use Rattle.writer.proofs.Added.{added-size}
+use Rattle.writer.proofs.CallCases.{call-uncounted, call-refused, call-written, call-over, made}
 use borrow.Author.Needs.{needs}
 use Rattle.writer.proofs.write.Statement.{statement}
 use Rattle.writer.proofs.write.Tie as tie
 
 returns : tie.Need-returns
 returns c =
-    let a = c .before .before .before .before .before .before .args in
-    let p = c .before .before .add-reference .ensures in
-    let u = right-refused 4 0 (call-over (now (a .lent)) (componentsOf (a .c)) (λ g h. omega (arith, c .before .if1 .taken, p .place g (omega (arith, h))))) in
+    let n = c .before .before in
+    let a = n .before .before .before .args in
+    let u = right-refused 4 0 (call-uncounted (now (a .lent)) (componentsOf (now (a .spans)) (a .c)) (sym (n .is-counted .ensures (now (a .spans))) ∙ not-true _ (c .before .if1 .taken))) in
     (c .refused .ensures ∙ u .answered, u .holds)
 
-array-share-prefix-made : tie.Need-array-share-prefix-made
-array-share-prefix-made c = omega (arith, c .if1 .left, made-size _ _ refl (omega arith) (c .before .add-reference .ensures))
-
-slice-aggregate-encoding : tie.Need-slice-aggregate-encoding
-slice-aggregate-encoding c = sym (length-take-le _ _ (omega (arith, made-size _ _ refl (omega arith) (c .before .before .add-reference .ensures))))
+add-reference-requires : tie.Need-add-reference-requires
+add-reference-requires c κs =
+    let n = c .before .before in
+    sym (n .is-counted .ensures (now (n .before .before .before .args .spans))) ∙ not-false _ (c .before .if1 .left)
 
 returns-2 : tie.Need-returns-2
 returns-2 c =
-    let a = c .before .before .before .before .before .before .before .before .before .before .before .args in
-    let p = c .before .before .before .before .before .before .before .add-reference .ensures in
-    let h = c .before .before .before .before .before .before .if1 .left in
-    let m = made (now (a .lent)) (componentsOf (a .c)) refl (omega (arith, h)) p in
-    let e = ap (read limits) (sym (m .1)) ∙ sym (c .before .before .before .before .read .ensures) ∙ ap answerIs (c .before .before .refusal .given .1) in
-    let u = right-refused _ 0 (call-refused (now (a .lent)) (componentsOf (a .c)) _ _ (p .good (omega (arith, h))) e) in
+    let p = c .before .before in
+    let n = p .before .before .before in
+    let a = n .before .before .before .args in
+    let few = sym (n .is-counted .ensures (now (a .spans))) ∙ not-false _ (p .before .before .if1 .left) in
+    let u = right-refused 4 0 (call-over (now (a .lent)) (componentsOf (now (a .spans)) (a .c)) few (λ g h. omega (arith, c .before .if2 .taken, p .add-reference .ensures .place g (omega (arith, h))))) in
     (c .refused2 .ensures ∙ u .answered, u .holds)
+
+array-share-prefix-made : tie.Need-array-share-prefix-made
+array-share-prefix-made c = omega (arith, c .if2 .left, added-size (c .before .add-reference .ensures) (omega arith))
+
+slice-aggregate-encoding : tie.Need-slice-aggregate-encoding
+slice-aggregate-encoding c = sym (length-take-le _ _ (omega (arith, added-size (c .before .before .add-reference .ensures) (omega arith))))
+
+-- what was read is the encoding, which may be written: the counts, the spans and the bytes
+module _ (r : tie.After-read) where
+  abbrev added : tie.After-add-reference
+  added = r .before .before .before
+
+  abbrev start : tie.Start
+  start = added .before .before .before .before .before .before
+
+  abbrev lent : Bytes
+  lent = now (start .args .lent)
+
+  abbrev said : Components
+  said = componentsOf (now (start .args .spans)) (start .args .c)
+
+  few : counted limits said ≡ true
+  few = sym (added .before .before .before .is-counted .ensures (now (start .args .spans))) ∙ not-false _ (added .before .before .if1 .left)
+
+  within : added .add-reference .result ≤ limits .bytes
+  within = omega (arith, r .before .before .if2 .left)
+
+  lies : Lie lent (allTexts said)
+  lies = added .add-reference .ensures .good within
+
+  whole : take (added .add-reference .result) (added .add-reference .last .0) ≡ encode (mapParts (taken lent) said)
+  whole = made lent said refl within (added .add-reference .ensures) .1
+
+  read-is : read limits (encode (mapParts (taken lent) said)) ≡ answerIs (r .read .result)
+  read-is = ap (read limits) (sym whole) ∙ sym (r .read .ensures)
 
 returns-3 : tie.Need-returns-3
 returns-3 c =
-    let a = c .before .before .before .before .before .before .before .before .before .before .before .before .before .args in
-    let p = c .before .before .before .before .before .before .before .before .before .add-reference .ensures in
-    let h = c .before .before .before .before .before .before .before .before .if1 .left in
-    let m = made (now (a .lent)) (componentsOf (a .c)) refl (omega (arith, h)) p in
-    let e = ap (read limits) (sym (m .1)) ∙ sym (c .before .before .before .before .before .before .read .ensures) ∙ ap answerIs (c .before .before .before .before .enum-told .given .1) in
-    let u = ap ok (m .1) ∙ sym (call-written (now (a .lent)) (componentsOf (a .c)) _ (p .good (omega (arith, h))) e) in
-    right-as _ u (c .before .before .copied .ensures)
+    let r = c .before .before .before .before in
+    let e = read-is r ∙ ap answerIs (c .before .before .refusal .given .1) in
+    let u = right-refused _ 0 (call-refused (lent r) (said r) _ _ (few r) (lies r) e) in
+    (c .refused3 .ensures ∙ u .answered, u .holds)
+
+returns-4 : tie.Need-returns-4
+returns-4 c =
+    let t = c .before .before .before .before in
+    let r = t .before .before in
+    let e = read-is r ∙ ap answerIs (t .enum-told .given .1) in
+    right-as _ (ap ok (whole r) ∙ sym (call-written (lent r) (said r) _ (few r) (lies r) e)) (c .before .before .copied .ensures)
 
 pub write-spec : {M : Type 1} → statement M
 write-spec =
@@ -54,6 +99,9 @@ write-spec =
     (λ c κs. search needs)
     (λ c κs. search needs)
     returns
+    add-reference-requires
+    (λ c κs. search needs)
+    returns-2
     array-share-prefix-made
     slice-aggregate-encoding
     (λ c κs. search needs)
@@ -61,6 +109,6 @@ write-spec =
     (λ c κs. search needs)
     (λ c. search needs)
     (λ c κs. search needs)
-    returns-2
+    returns-3
     (λ c. search needs)
-    returns-3)
+    returns-4)
