@@ -1,18 +1,18 @@
 -- What the structs and the array say undoes how they are laid out.
-use Prim.Native.Nat.{ℕ, _+_, _*_}
+use Prim.Native.Nat.{ℕ, zero, suc, _+_, _*_, _<_}
 use native.Mathlib.Omega.{arith}
 use mathlib.Core.Path.{_≡_, refl, sym, ap, ap₂, _∙_}
 use mathlib.Core.List.{List, [], _∷_, _++_, append-assoc}
 use mathlib.Core.Option.{Option, none, some}
-use lib.ListN.{length, drop, length-append}
-use lib.Seq.{drop-at}
+use lib.ListN.{length, getD, getElem?, drop, length-append}
+use lib.Seq.{drop-at, getD-drop, drop-drop}
 use Rattle.rules.specs.Model as Model
 use Rattle.rules.specs.Model.{elements}
 use Rattle.rules.specs.Writing.{labelsOf, openingLabels}
 use Rattle.reader.specs.declared.Port.{Port}
 use Rattle.reader.specs.declared.Port.the-variants as PortV
 use Rattle.reader.specs.Answers.{portOf}
-use Rattle.components.specs.Content.{spansOf, schemeOf, authorityOf, openingOf, textsOf, fragmentOf, hostCount, labelCount, textCount, componentsOf}
+use Rattle.components.specs.Content.{numberedSpan, spansOf, schemeOf, authorityOf, openingOf, textsOf, fragmentOf, hostCount, labelCount, textCount, componentsOf}
 use Rattle.components.specs.Layout.{schemeLaid, portLaid, hostLaid, openingLaid, textsLaid, fragmentLaid, componentsLaid, spanNumbers, textNumbers}
 use Rattle.components.proofs.Filling.{length-numbers}
 
@@ -92,3 +92,21 @@ components-said c xs =
       query = (ap (λ (l : List ℕ). textsOf l (textsLaid (c .query))) query ∙ texts-said (c .query) xs) i;
       fragment = fragment-said (c .fragment) i;
     }
+
+-- the i-th of n texts, before which there are k others, is text k + i of the array
+pub text-numbered : (xs : List ℕ) (k n i : ℕ) → i < n → getElem? (spansOf n (drop (2 * k) xs)) i ≡ some (numberedSpan xs (k + i))
+unfolding spansOf
+text-numbered xs k zero i h = absurd (omega arith)
+text-numbered xs k (suc n) zero h =
+    let start : 2 * k + 0 ≡ 2 * (k + 0) = omega arith in
+    let length : 2 * k + 1 ≡ 2 * (k + 0) + 1 = omega arith in
+    λ j. some (record {
+      start = (getD-drop (2 * k) xs 0 0 ∙ ap (λ (m : ℕ). getD xs m 0) start) j;
+      length = (getD-drop (2 * k) xs 1 0 ∙ ap (λ (m : ℕ). getD xs m 0) length) j;
+    })
+text-numbered xs k (suc n) (suc i) h =
+    let next : 2 * k + 2 ≡ 2 * (k + 1) = omega arith in
+    let place : k + 1 + i ≡ k + suc i = omega arith in
+    ap (λ (l : List ℕ). getElem? (spansOf n l) i) (drop-drop 2 (2 * k) xs ∙ ap (λ (m : ℕ). drop m xs) next)
+    ∙ text-numbered xs (k + 1) n i (omega arith)
+    ∙ ap (λ (m : ℕ). some (numberedSpan xs m)) place

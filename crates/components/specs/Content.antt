@@ -26,7 +26,7 @@ numberedSpan xs k = record { start = getD xs (2 * k) 0; length = getD xs (2 * k 
 -- n spans, start and length of each; beyond the numbers there are zeros, so that a count over them is still that count
 unfoldable pub spansOf : ℕ → List ℕ → List Model.Span
 spansOf zero xs = []
-spansOf (suc n) xs = record { start = getD xs 0 0; length = getD xs 1 0 } ∷ spansOf n (drop 2 xs)
+spansOf (suc n) xs = numberedSpan xs 0 ∷ spansOf n (drop 2 xs)
 
 -- the scheme's number, or where its text stands
 abbrev pub schemeOf : Scheme → Option (Model.Scheme Model.Span)
