@@ -830,20 +830,18 @@ fn the_largest_components() {
             assert_eq!(answer[1], length.to_string());
         }
     }
+    let around = |most| {
+        [
+            (most - 1, "0"),
+            (most, "0"),
+            (most + 1, "4"),
+            (most + 2, "4"),
+        ]
+    };
     let segments = Tally::of(said.iter().map(|(count, _, answer)| (*count, answer[0])));
-    segments.has_all([
-        (MOST - 1, "0"),
-        (MOST, "0"),
-        (MOST + 1, "4"),
-        (MOST + 2, "4"),
-    ]);
+    segments.has_all(around(MOST));
     let lengths = Tally::of(said.iter().map(|(_, length, answer)| (*length, answer[0])));
-    lengths.has_all([
-        (MAX_INPUT - 1, "0"),
-        (MAX_INPUT, "0"),
-        (MAX_INPUT + 1, "4"),
-        (MAX_INPUT + 2, "4"),
-    ]);
+    lengths.has_all(around(MAX_INPUT));
 }
 
 /// For each call that writes, where it is done with room enough: how long the room is beside what is written.

@@ -98,7 +98,7 @@ spanNumbers (s ∷ ss) = s .start ∷ s .length ∷ spanNumbers ss
 abbrev pub textNumbers : Model.Components → List ℕ
 textNumbers c = spanNumbers (openingLabels (c .opening)) ++ (spanNumbers (elements (c .path)) ++ spanNumbers (elements (c .query)))
 
--- the array after reading: untouched by a refusal, and past the numbers that were stored
+-- RULES 3.1, 9.5: the array after reading: untouched by a refusal, and past the numbers that were stored
 unfoldable pub spansAfter : Res Model.Components → List ℕ → List ℕ
 spansAfter (refused n k) xs = xs
 spansAfter (ok c) xs = textNumbers c ++ drop (length (textNumbers c)) xs

@@ -1,13 +1,11 @@
 -- The items of an encoding as they are added, and when RULES 9.2 lets them be.
-use Prim.Native.Nat.{ℕ, zero, suc, _+_, _-_, _≤_, _<_}
-use native.Mathlib.Nat.{add-zero}
+use Prim.Native.Nat.{ℕ, zero, suc, _+_, _≤_, _<_}
 use native.Mathlib.Omega.{arith}
-use mathlib.Core.Path.{_≡_, refl, sym, ap, ap₂, _∙_}
+use mathlib.Core.Path.{_≡_, refl, sym, ap, _∙_}
 use mathlib.Core.Bool.{true, _&&_}
 use mathlib.Core.List.{List, [], _∷_, _++_, append-assoc, append-nil, map}
 use mathlib.Core.Option.{Option, none, some, Option·map}
-use lib.ListN.{length, drop, getD, length-append, length-map}
-use lib.Seq.{getD-drop, drop-drop}
+use lib.ListN.{length, drop, length-append, length-map}
 use lib.Dec.{leb, lit≤}
 use borrow.Author.Tests.{leb-true, le-leb}
 use Rattle.rules.specs.Bytes.{Bytes, all, concat}
@@ -15,17 +13,13 @@ use Rattle.rules.specs.Head.{Kind, Number, ByteString, Array, headBytes}
 use Rattle.rules.specs.Model.{Scheme, Authority, Host, address, labels, Opening, discard, discardAll, full, Span, Components, elements, limits, mostLabels, mostParameters}
 use Rattle.rules.specs.Reader.{taken}
 use Rattle.rules.specs.Encode.{textItem, arrayItem, textsItem, nullItem, orNull, tailItems, portItems, hostItems, authorityItem, discardAlone, withOpening}
-use Rattle.rules.specs.Writing.{hostTexts, schemeTexts, whereSet, openingTexts, openingLabels, allTexts, counted, inside, Lie}
+use Rattle.rules.specs.Writing.{hostTexts, schemeTexts, whereSet, openingTexts, allTexts, counted, inside, Lie}
 use Rattle.rules.proofs.Tools.{and-left, and-right, and-both, length-part, concat-append}
 use Rattle.rules.proofs.Standing.{none-lie, both-lie}
-use Rattle.components.specs.declared.Components as Whole
-use Rattle.components.specs.declared.Opening as First
-use Rattle.components.specs.declared.Opening.the-variants as OpeningV
-use Rattle.components.specs.declared.Authority.the-variants as AuthorityV
-use Rattle.components.specs.declared.Texts.{Texts}
-use Rattle.components.specs.declared.Texts.the-variants as TextsV
-use Rattle.components.specs.Content.{spansOf, openingOf, textsOf, labelCount, textCount, pathPlace, queryPlace, componentsOf}
-use Rattle.writer.specs.AddedItems.{TailMay, stringItem, textItems, authorityItems, discardItems, openingItems, fragmentItems}
+use Rattle.components.specs.declared.Components as Code
+use Rattle.components.specs.Content.{spansOf, labelCount, textCount, pathPlace, queryPlace, componentsOf}
+use Rattle.components.proofs.Content.{length-spansOf, labels-counted, texts-counted}
+use Rattle.writer.specs.AddedItems.{FurtherMay, TailMay, stringItem, textItems, authorityItems, discardItems, openingItems, fragmentItems}
 
 -- an item by itself
 pub one-item : (x : Bytes) → x ≡ concat (x ∷ [])
@@ -72,27 +66,6 @@ second-lie lent (s ∷ ss) ts a = second-lie lent ss ts (and-right (inside lent 
 pub string-said : (k : Kind) (lent : Bytes) (s : Span) → inside lent s ≡ true → headBytes k (s .length) ++ taken lent s ≡ stringItem k (taken lent s)
 unfolding stringItem
 string-said k lent s e = ap (λ (n : ℕ). headBytes k n ++ taken lent s) (sym (length-taken lent s e))
-
--- those of an array: as many as were asked for
-pub length-spansOf : (n : ℕ) (xs : List ℕ) → length (spansOf n xs) ≡ n
-unfolding spansOf
-length-spansOf zero xs = refl
-length-spansOf (suc n) xs = ap suc (length-spansOf n (drop 2 xs))
-
--- the first of those from a place on, and those after it
-pub spans-next : (xs : List ℕ) (i n : ℕ) → 0 < n
-    → spansOf n (drop i xs) ≡ record { start = getD xs i 0; length = getD xs (i + 1) 0 } ∷ spansOf (n - 1) (drop (i + 2) xs)
-unfolding spansOf
-spans-next xs i zero h = absurd (omega arith)
-spans-next xs i (suc n) h =
-    let less : suc n - 1 ≡ n = omega arith in
-    ap₂ _∷_ (λ k. record { start = (getD-drop i xs 0 0 ∙ ap (λ (j : ℕ). getD xs j 0) (add-zero i)) k; length = getD-drop i xs 1 0 k })
-    (ap (spansOf n) (drop-drop 2 i xs) ∙ ap (λ (m : ℕ). spansOf m (drop (i + 2) xs)) (sym less))
-
-pub spans-end : (xs : List ℕ) (i n : ℕ) → n ≤ 0 → spansOf n (drop i xs) ≡ []
-unfolding spansOf
-spans-end xs i zero h = refl
-spans-end xs i (suc n) h = absurd (omega arith)
 
 -- an array of n texts
 pub texts-said : (lent : Bytes) (n : ℕ) (xs : List ℕ) → headBytes Array n ++ textItems lent (spansOf n xs) ≡ textsItem (map (taken lent) (spansOf n xs))
@@ -228,13 +201,9 @@ module _ (lent : Bytes) (s : Option (Scheme Span)) (a : Option (Authority Span))
 abbrev tail : Bytes → Option (List Span) → Option (List Span) → Option Span → List Bytes
 tail lent p q f = tailItems (Option·map (map (taken lent)) p) (Option·map (map (taken lent)) q) (Option·map (taken lent) f)
 
--- when they may be added
-abbrev May : Bytes → Option (List Span) → Option (List Span) → Option Span → Type 0
-May lent p q f = Lie lent (elements p) × Lie lent (elements q) × Lie lent (whereSet (λ t. t ∷ []) f)
-
 module _ (lent : Bytes) where
   -- none of them is set
-  pub tail-none : (p q : Option (List Span)) (f : Option Span) → length (tail lent p q f) ≡ 0 → ([] ≡ concat (tail lent p q f)) × May lent p q f
+  pub tail-none : (p q : Option (List Span)) (f : Option Span) → length (tail lent p q f) ≡ 0 → ([] ≡ concat (tail lent p q f)) × FurtherMay lent p q f
   unfolding tailItems concat
   tail-none p q (some f) e = absurd (omega arith)
   tail-none p (some q) none e = absurd (omega arith)
@@ -243,7 +212,7 @@ module _ (lent : Bytes) where
 
   -- the path alone
   pub tail-one : (p q : Option (List Span)) (f : Option Span) → length (tail lent p q f) ≡ 1
-      → (orNull textsItem (Option·map (map (taken lent)) p) ≡ concat (tail lent p q f)) × (Lie lent (elements p) → May lent p q f)
+      → (orNull textsItem (Option·map (map (taken lent)) p) ≡ concat (tail lent p q f)) × (Lie lent (elements p) → FurtherMay lent p q f)
   unfolding tailItems orNull
   tail-one p q (some f) e = absurd (omega arith)
   tail-one p (some q) none e = absurd (omega arith)
@@ -296,25 +265,14 @@ module _ (lent : Bytes) (c : Components) where
 
 -- ---- RULES 9.2: counts
 
-labels-counted : (xs : List ℕ) (o : First.Opening) → length (openingLabels (openingOf xs o)) ≡ labelCount o
-labels-counted xs (OpeningV.Discard k) = refl
-labels-counted xs OpeningV.DiscardAll = refl
-labels-counted xs (OpeningV.Full s AuthorityV.Unset) = refl
-labels-counted xs (OpeningV.Full s (AuthorityV.Address a p)) = refl
-labels-counted xs (OpeningV.Full s (AuthorityV.Labels n p)) = length-spansOf n xs
-
-texts-counted : (xs : List ℕ) (t : Texts) → length (elements (textsOf xs t)) ≡ textCount t
-texts-counted xs TextsV.Unset = refl
-texts-counted xs (TextsV.Set n) = length-spansOf n xs
-
 -- what the array says does not count
-pub counted-by : (xs : List ℕ) (c : Whole.Components)
+pub counted-by : (xs : List ℕ) (c : Code.Components)
     → counted limits (componentsOf xs c) ≡ (leb (labelCount (c .opening)) mostLabels && (leb (textCount (c .path)) (limits .segments) && leb (textCount (c .query)) mostParameters))
 unfolding counted
 counted-by xs c = rw (labels-counted xs (c .opening), texts-counted (drop (pathPlace c) xs) (c .path), texts-counted (drop (queryPlace c) xs) (c .query)) refl
 
 -- no count is over its size
-pub counted-each : (xs : List ℕ) (c : Whole.Components) → counted limits (componentsOf xs c) ≡ true
+pub counted-each : (xs : List ℕ) (c : Code.Components) → counted limits (componentsOf xs c) ≡ true
     → (labelCount (c .opening) ≤ mostLabels) × (textCount (c .path) ≤ limits .segments) × (textCount (c .query) ≤ mostParameters)
 counted-each xs c e =
     let l = leb (labelCount (c .opening)) mostLabels in

@@ -14,9 +14,13 @@ use Rattle.components.specs.Content.{componentsOf}
 
 -- ---- when they may be added
 
--- 9.2: path, query and fragment lie inside the lent bytes
+-- 9.2: a path, a query and a fragment lie inside the lent bytes
+abbrev pub FurtherMay : Bytes → Option (List Span) → Option (List Span) → Option Span → Type 0
+FurtherMay lent p q f = Lie lent (elements p) × Lie lent (elements q) × Lie lent (whereSet (λ t. t ∷ []) f)
+
+-- those of components
 abbrev pub TailMay : Bytes → Parts Span → Type 0
-TailMay lent c = Lie lent (elements (c .path)) × Lie lent (elements (c .query)) × Lie lent (whereSet (λ t. t ∷ []) (c .fragment))
+TailMay lent c = FurtherMay lent (c .path) (c .query) (c .fragment)
 
 -- ---- items
 

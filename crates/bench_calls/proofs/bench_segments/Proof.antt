@@ -1,12 +1,12 @@
 -- `bench_calls::bench_segments` meets its contract.
-use mathlib.Core.Path.{_≡_, refl, ap, _∙_}
+use mathlib.Core.Path.{_≡_, refl, sym, ap, _∙_}
 use Rattle.rules.specs.Result.{Res, refused, ok}
 use Rattle.rules.specs.Model.{Components, limits}
 use Rattle.rules.specs.Calls.{readCall}
 use Rattle.components.specs.declared.Reading.{Reading}
 use Rattle.components.specs.Content.{textCount}
 use Rattle.components.specs.Layout.{readingLaid}
-use Rattle.components.proofs.Content.{texts-counted}
+use Rattle.components.proofs.Content.{texts-laid}
 use Rattle.bench_calls.specs.Packed.{segmentCount}
 use borrow.Author.Needs.{needs}
 use Rattle.bench_calls.proofs.bench_segments.Statement.{statement}
@@ -14,7 +14,7 @@ use Rattle.bench_calls.proofs.bench_segments.Tie as tie
 
 counted : (m : Res Components) → textCount (readingLaid m .components .path) ≡ segmentCount m
 counted (refused n k) = refl
-counted (ok c) = texts-counted (c .path)
+counted (ok c) = sym (texts-laid (c .path))
 
 returns : tie.Need-returns
 returns c =

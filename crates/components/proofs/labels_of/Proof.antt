@@ -1,5 +1,5 @@
 -- `components::labels_of` meets its contract.
-use mathlib.Core.Path.{refl, sym, ap}
+use mathlib.Core.Path.{refl}
 use borrow.Author.Needs.{needs}
 use Rattle.components.proofs.labels_of.Statement.{statement}
 use Rattle.components.proofs.labels_of.Tie as tie

@@ -1,5 +1,4 @@
 -- `writer::add_slot` meets its contract.
-use native.Mathlib.Omega.{arith}
 use mathlib.Core.Path.{refl}
 use Rattle.rules.specs.Encode.{orNull}
 use Rattle.rules.proofs.Standing.{none-lie}

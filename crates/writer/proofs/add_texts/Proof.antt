@@ -4,8 +4,8 @@ use Prim.Native.Nat.{_+_, _-_, _*_, _≤_}
 use lib.ListN.{drop}
 use denote.Ref.{now}
 use Rattle.components.specs.Content.{spansOf, mostNumbers}
+use Rattle.components.proofs.Content.{spans-next, spans-end}
 use Rattle.writer.proofs.Added.{rest-whole}
-use Rattle.writer.proofs.AddedItems.{spans-next, spans-end}
 use Rattle.writer.proofs.AddedTexts.{TextsLeft, texts-next, texts-end}
 use borrow.Author.Needs.{needs}
 use Rattle.writer.proofs.add_texts.Statement.{statement}
