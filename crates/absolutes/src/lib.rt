@@ -2,8 +2,8 @@
 ghost use Rattle.std.specs.Prelude.{◌≡◌};
 ghost use Rattle.rules.specs.Result.{refused};
 ghost use Rattle.rules.specs.Model.{limits};
-ghost use Rattle.reader.specs.Answers.{openingOf, answerIs};
-ghost use Rattle.absolutes.specs.Bases.{isAbsolute, readBase};
+ghost use Rattle.reader.specs.Answers.{opening_of, answer_is};
+ghost use Rattle.absolutes.specs.Bases.{is_absolute, read_base};
 
 use numbers::BASE;
 use reader::{Answer, OpeningAt, SchemeAt};
@@ -11,7 +11,7 @@ use refusals::Refusal;
 
 // Whether an opening is that of an absolute reference.
 pub fn is_absolute(opening: OpeningAt) -> bool
-    ensures { result ≡ isAbsolute (openingOf opening) }
+    ensures { result ≡ is_absolute (opening_of opening) }
 {
     match opening {
         OpeningAt::Discard(_) => false,
@@ -25,14 +25,14 @@ pub fn is_absolute(opening: OpeningAt) -> bool
 }
 
 fn refused(number: u8, place: usize) -> Answer
-    ensures { answerIs result ≡ refused number place }
+    ensures { answer_is result ≡ refused number place }
 {
     Answer::Refused(Refusal { number, place })
 }
 
 // Where everything stands in a base; 8 where the reader refuses it, at the reader's place, or at 0 where it is not absolute.
 pub fn read_base(s: &[u8]) -> Answer
-    ensures { answerIs result ≡ readBase limits s.now }
+    ensures { answer_is result ≡ read_base limits s.now }
 {
     match reader::read(s) {
         Answer::Refused(refusal) => refused(BASE, refusal.place),

@@ -3,12 +3,12 @@ ghost use Rattle.std.specs.Prelude.{◌≡◌, ◌-◌, ◌≤◌};
 ghost use Rattle.std.proofs.Math.Option.{none};
 ghost use Rattle.rules.specs.Result.{ok};
 ghost use Rattle.rules.specs.Model.{limits};
-ghost use Rattle.rules.specs.Views.{authoritySpan, chosen, authorityView, pieceShown, verdict};
+ghost use Rattle.rules.specs.Views.{authority_span, chosen, authority_view, piece_shown, verdict};
 ghost use Rattle.rules.specs.Laid.{Ordered};
-ghost use Rattle.cbor.specs.Heads.{spanIs};
-ghost use Rattle.reader.specs.Answers.{openingOf};
-ghost use Rattle.refusals.specs.Answers.{verdictIs};
-ghost use Rattle.authority_view.specs.Shown.{PieceOf, pieceIs};
+ghost use Rattle.cbor.specs.Heads.{span_is};
+ghost use Rattle.reader.specs.Answers.{opening_of};
+ghost use Rattle.refusals.specs.Answers.{verdict_is};
+ghost use Rattle.authority_view.specs.Shown.{PieceOf, piece_is};
 
 use cbor::Span;
 use reader::{Answer, AuthorityAt, OpeningAt};
@@ -25,7 +25,7 @@ enum Piece {
 // Where the whole item of an authority stands.
 fn item_span(authority: AuthorityAt) -> Span
     requires { authority.at ≤ authority.next }
-    ensures { spanIs result ≡ record { start = authority.at; length = authority.next - authority.at } }
+    ensures { span_is result ≡ record { start = authority.at; length = authority.next - authority.at } }
 {
     Span {
         start: authority.at,
@@ -35,8 +35,8 @@ fn item_span(authority: AuthorityAt) -> Span
 
 // The base's authority.
 fn base_item(base: OpeningAt) -> Piece
-    requires { Ordered (openingOf base) }
-    ensures { pieceIs result ≡ ok (chosen (authoritySpan (openingOf base)) none) }
+    requires { Ordered (opening_of base) }
+    ensures { piece_is result ≡ ok (chosen (authority_span (opening_of base)) none) }
 {
     match base {
         OpeningAt::Discard(_) => Piece::OfReference(Span {
@@ -53,8 +53,8 @@ fn base_item(base: OpeningAt) -> Piece
 
 // The reference's own authority, else the base's.
 fn chosen_item(base: OpeningAt, reference: OpeningAt) -> Piece
-    requires { Ordered (openingOf base) × Ordered (openingOf reference) }
-    ensures { pieceIs result ≡ ok (chosen (authoritySpan (openingOf base)) (authoritySpan (openingOf reference))) }
+    requires { Ordered (opening_of base) × Ordered (opening_of reference) }
+    ensures { piece_is result ≡ ok (chosen (authority_span (opening_of base)) (authority_span (opening_of reference))) }
 {
     match reference {
         OpeningAt::Discard(_) => base_item(base),
@@ -65,7 +65,7 @@ fn chosen_item(base: OpeningAt, reference: OpeningAt) -> Piece
 
 // The authority that the reference brings, else the base's. The base is judged first.
 fn chosen_authority(base: &[u8], reference: &[u8]) -> Piece
-    ensures { pieceIs result ≡ authorityView limits base.now reference.now }
+    ensures { piece_is result ≡ authority_view limits base.now reference.now }
 {
     match absolutes::read_base(base) {
         Answer::Refused(refusal) => Piece::Refused(refusal),
@@ -83,7 +83,7 @@ fn chosen_authority(base: &[u8], reference: &[u8]) -> Piece
 // The authority that the reference brings, else the base's: the whole encoded item, as a part of the slice that has it; the empty part at
 // the start of the reference where it can't be given.
 pub fn authority<'a>(base: &'a [u8], reference: &'a [u8]) -> &'a [u8]
-    ensures { PieceOf base.entry reference.entry result (pieceShown (authorityView limits base.now reference.now)) }
+    ensures { PieceOf base.entry reference.entry result (piece_shown (authority_view limits base.now reference.now)) }
 {
     match chosen_authority(base, reference) {
         Piece::OfReference(span) => {
@@ -102,7 +102,7 @@ pub fn authority<'a>(base: &'a [u8], reference: &'a [u8]) -> &'a [u8]
 
 // Accepted where it is given; 8 where the base is refused or not absolute; 1 to 7 where the reference is refused.
 pub fn authority_verdict(base: &[u8], reference: &[u8]) -> Verdict
-    ensures { verdictIs result ≡ verdict (authorityView limits base.now reference.now) }
+    ensures { verdict_is result ≡ verdict (authority_view limits base.now reference.now) }
 {
     match chosen_authority(base, reference) {
         Piece::OfReference(_) => Verdict::Accepted,

@@ -16,27 +16,27 @@ class_of (suc (suc zero)) = Parameter
 class_of (suc (suc (suc n))) = Fragment
 
 -- the kinds of a label and a port
-abbrev pub textOrNumber : Kind → Bool
-textOrNumber k = is Text k || is Number k
+abbrev pub text_or_number : Kind → Bool
+text_or_number k = is Text k || is Number k
 
 -- the position after n bytes of content
-unfoldable pub afterContent : Bytes → ℕ → ℕ → ℕ → Res ℕ
-afterContent bs at next n = do
+unfoldable pub after_content : Bytes → ℕ → ℕ → ℕ → Res ℕ
+after_content bs at next n = do
   need (leb n (length bs - next)) CUT at
   ok (next + n)
 
 -- the position after a head and, of a text, its content
 unfoldable pub after_head : Bytes → ℕ → Head → Res ℕ
-after_head bs at h = cond (is Text h.kind) (afterContent bs at h.next h.value) (ok h.next)
+after_head bs at h = cond (is Text h.kind) (after_content bs at h.next h.value) (ok h.next)
 
 -- the position after the item at a position, where these kinds are allowed
-unfoldable pub afterItem : (Kind → Bool) → Bytes → ℕ → Res ℕ
-afterItem allowed bs at = read_head allowed bs at >>= after_head bs at
+unfoldable pub after_item : (Kind → Bool) → Bytes → ℕ → Res ℕ
+after_item allowed bs at = read_head allowed bs at >>= after_head bs at
 
 -- the position after n of them
 unfoldable pub items : (Kind → Bool) → Bytes → ℕ → ℕ → Res ℕ
 items allowed bs at zero = ok at
-items allowed bs at (suc n) = afterItem allowed bs at >>= (λ next. items allowed bs next n)
+items allowed bs at (suc n) = after_item allowed bs at >>= (λ next. items allowed bs next n)
 
 -- an answer
 abbrev pub answer : Res ℕ → Answer
@@ -44,6 +44,6 @@ answer (refused n place) = record { number = n; next = 0 }
 answer (ok next) = record { number = 0; next = next }
 
 -- a step, whose refusal's place is the item's
-abbrev pub stepIs : ℕ → Step → Res ℕ
-stepIs at (StepV.Next next) = ok next
-stepIs at (StepV.Refused n) = refused n at
+abbrev pub step_is : ℕ → Step → Res ℕ
+step_is at (StepV.Next next) = ok next
+step_is at (StepV.Refused n) = refused n at

@@ -4,10 +4,10 @@ ghost use Rattle.rules.specs.Bytes.{part};
 ghost use Rattle.rules.specs.Utf8.{utf8};
 ghost use Rattle.rules.specs.Head.{Text, is};
 ghost use Rattle.rules.specs.Text.{escape};
-ghost use Rattle.rules.specs.Address.{ipv6Text};
+ghost use Rattle.rules.specs.Address.{ipv6_text};
 ghost use Rattle.put.specs.Wrote.{Wrote};
-ghost use Rattle.uri_escape.specs.Escape.{classIs, Table};
-ghost use Rattle.bench.specs.Answers.{class_of, textOrNumber, afterContent, afterItem, items, answer, stepIs};
+ghost use Rattle.uri_escape.specs.Escape.{class_is, Table};
+ghost use Rattle.bench.specs.Answers.{class_of, text_or_number, after_content, after_item, items, answer, step_is};
 
 use numbers::{CUT, FORM};
 
@@ -41,7 +41,7 @@ enum Step {
 // The position after n bytes of content.
 fn after_content(s: &[u8], next: usize, n: u64) -> Step
     requires { next ≤ length s.now }
-    ensures { (at : ℕ) → stepIs at result ≡ afterContent s.now at next n }
+    ensures { (at : ℕ) → step_is at result ≡ after_content s.now at next n }
 {
     let left = s.len() - next;
     if (left as u64) < n {
@@ -52,7 +52,7 @@ fn after_content(s: &[u8], next: usize, n: u64) -> Step
 
 // The position after the text at a position.
 fn after_text(s: &[u8], at: usize) -> Step
-    ensures { stepIs at result ≡ afterItem (is Text) s.now at }
+    ensures { step_is at result ≡ after_item (is Text) s.now at }
 {
     let allowed = cbor::Kinds {
         number: false,
@@ -72,7 +72,7 @@ fn after_text(s: &[u8], at: usize) -> Step
 
 // The position after the text or number at a position.
 fn after_label(s: &[u8], at: usize) -> Step
-    ensures { stepIs at result ≡ afterItem textOrNumber s.now at }
+    ensures { step_is at result ≡ after_item text_or_number s.now at }
 {
     let allowed = cbor::Kinds {
         number: true,
@@ -119,7 +119,7 @@ pub extern "C" fn bench_texts(s: &[u8], count: usize) -> Answer
 // `count` texts and numbers one after the other.
 #[unsafe(no_mangle)]
 pub extern "C" fn bench_labels(s: &[u8], count: usize) -> Answer
-    ensures { result ≡ answer (items textOrNumber s.now 0 count) }
+    ensures { result ≡ answer (items text_or_number s.now 0 count) }
 {
     let mut at = 0;
     let mut left = count;
@@ -142,7 +142,7 @@ pub extern "C" fn bench_labels(s: &[u8], count: usize) -> Answer
 }
 
 fn class_of(k: u8) -> uri_escape::Class
-    ensures { classIs result ≡ class_of k }
+    ensures { class_is result ≡ class_of k }
 {
     match k {
         0 => uri_escape::Class::Label,
@@ -176,7 +176,7 @@ pub extern "C" fn bench_put_escaped(
 #[unsafe(no_mangle)]
 pub extern "C" fn bench_put_ipv6(room: &mut [u8], src: &[u8]) -> usize
     requires { (16 ≤ length src.now) × (49 ≤ length room.old) }
-    ensures { Wrote room.old 0 (ipv6Text (part src.now 0 16)) room.new result }
+    ensures { Wrote room.old 0 (ipv6_text (part src.now 0 16)) room.new result }
 {
     ipv6::put_ipv6(room, 0, src, 0)
 }

@@ -7,43 +7,43 @@ use mathlib.Core.Path.{◌≡◌, sym, ap, ◌∙◌, subst}
 use mathlib.Core.List.{[], ◌∷◌}
 use lib.ListN.{length, get_or}
 use lib.Dec.{lit<}
-use Rattle.rules.specs.Bytes.{Bytes, Octets, part, numberFrom}
+use Rattle.rules.specs.Bytes.{Bytes, Octets, part, number_from}
 use Rattle.rules.proofs.Tools.{part_step, part_end}
 
 -- what stands before the bytes
-number-after : (v : ℕ) (xs : Bytes) → numberFrom v xs ≡ v * 256 ^ length xs + numberFrom 0 xs
-unfolding numberFrom
-number-after v [] = omega arith
-number-after v (b ∷ bs) =
+number_after_lem : (v : ℕ) (xs : Bytes) → number_from v xs ≡ v * 256 ^ length xs + number_from 0 xs
+unfolding number_from
+number_after_lem v [] = omega arith
+number_after_lem v (b ∷ bs) =
     let high : v * 256 ^ suc (length bs) ≡ v * 256 * 256 ^ length bs = ap (λ (n : ℕ). v * n) (pow-succ' 256 (length bs)) ∙ sym (mul_assoc v 256 (256 ^ length bs)) in
     omega (
       arith,
       high,
-      number-after (v * 256 + b) bs,
-      number-after (0 * 256 + b) bs,
+      number_after_lem (v * 256 + b) bs,
+      number_after_lem (0 * 256 + b) bs,
       add-mul (v * 256) b (256 ^ length bs),
       add-mul (0 * 256) b (256 ^ length bs),
     )
 
-pub number-below : (xs : Bytes) → Octets xs → numberFrom 0 xs < 256 ^ length xs
-unfolding numberFrom
-number-below [] o = omega arith
-number-below (b ∷ bs) o =
+pub number_below : (xs : Bytes) → Octets xs → number_from 0 xs < 256 ^ length xs
+unfolding number_from
+number_below [] o = omega arith
+number_below (b ∷ bs) o =
     let p : ℕ = 256 ^ length bs in
     let h : b < 256 = o.0 in
     let m : (b + 1) * p ≤ 256 * p = mul-le-mul_right p (omega arith) in
-    omega (arith, m, add-mul b 1 p, add-mul (0 * 256) b p, pow-succ' 256 (length bs), number-after (0 * 256 + b) bs, number-below bs o.1)
+    omega (arith, m, add-mul b 1 p, add-mul (0 * 256) b p, pow-succ' 256 (length bs), number_after_lem (0 * 256 + b) bs, number_below bs o.1)
 
 -- ---- read from i up to `end`, where v is the number of the bytes passed
 
 pub number_step : (bs : Bytes) (i end v : ℕ) → i < end → end ≤ length bs
-    → numberFrom v (part bs i (end - i)) ≡ numberFrom (v * 256 + get_or bs i 0) (part bs (i + 1) (end - (i + 1)))
-unfolding numberFrom
-number_step bs i end v h l = ap (numberFrom v) (part_step bs i end h l)
+    → number_from v (part bs i (end - i)) ≡ number_from (v * 256 + get_or bs i 0) (part bs (i + 1) (end - (i + 1)))
+unfolding number_from
+number_step bs i end v h l = ap (number_from v) (part_step bs i end h l)
 
-pub number-end : (bs : Bytes) (i end v : ℕ) → end ≤ i → numberFrom v (part bs i (end - i)) ≡ v
-unfolding numberFrom
-number-end bs i end v h = ap (numberFrom v) (part_end bs i end h)
+pub number_end : (bs : Bytes) (i end v : ℕ) → end ≤ i → number_from v (part bs i (end - i)) ≡ v
+unfolding number_from
+number_end bs i end v h = ap (number_from v) (part_end bs i end h)
 
 -- a number of j bytes has room for one more, where j is less than 8
 pub record Room (j v b : ℕ) : Type 0 where
@@ -60,5 +60,5 @@ room j v b h hv hb =
 pub none_passed : (from : ℕ) → 0 < 256 ^ (from - from)
 none_passed from = let e : 0 ≡ from - from = omega arith in subst (λ (k : ℕ). 0 < 256 ^ k) e (lit< tt)
 
-pub one-passed : (from i x : ℕ) → from ≤ i → x < 256 ^ (i - from + 1) → x < 256 ^ (i + 1 - from)
-one-passed from i x h l = let e : i - from + 1 ≡ i + 1 - from = omega arith in subst (λ (k : ℕ). x < 256 ^ k) e l
+pub one_passed : (from i x : ℕ) → from ≤ i → x < 256 ^ (i - from + 1) → x < 256 ^ (i + 1 - from)
+one_passed from i x h l = let e : i - from + 1 ≡ i + 1 - from = omega arith in subst (λ (k : ℕ). x < 256 ^ k) e l

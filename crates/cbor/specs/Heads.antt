@@ -13,15 +13,15 @@ use Rattle.cbor.specs.declared.Span.{Span}
 use Rattle.cbor.specs.declared.Argument.{Argument}
 use Rattle.cbor.specs.declared.Argument.TheVariants as ArgumentV
 
-abbrev pub kindIs : Kind → H.Kind
-kindIs KindV.Number = H.Number
-kindIs KindV.Negative = H.Negative
-kindIs KindV.ByteString = H.ByteString
-kindIs KindV.Text = H.Text
-kindIs KindV.Array = H.Array
-kindIs KindV.True = H.True
-kindIs KindV.Null = H.Null
-kindIs KindV.Other = H.Other
+abbrev pub kind_is : Kind → H.Kind
+kind_is KindV.Number = H.Number
+kind_is KindV.Negative = H.Negative
+kind_is KindV.ByteString = H.ByteString
+kind_is KindV.Text = H.Text
+kind_is KindV.Array = H.Array
+kind_is KindV.True = H.True
+kind_is KindV.Null = H.Null
+kind_is KindV.Other = H.Other
 
 -- the kinds that are allowed, as a test
 abbrev pub allows : Kinds → H.Kind → Bool
@@ -39,38 +39,38 @@ abbrev pub accepted : H.Kind → ℕ → ℕ → Res H.Head
 accepted k v next = ok (record { kind = k; value = v; next = next })
 
 -- the answer at a position: true is head information 21, null 22, and a refusal's place is the head's
-abbrev pub itemIs : ℕ → Item → Res H.Head
-itemIs at (ItemV.Number v next) = accepted H.Number v next
-itemIs at (ItemV.Negative v next) = accepted H.Negative v next
-itemIs at (ItemV.ByteString v next) = accepted H.ByteString v next
-itemIs at (ItemV.Text v next) = accepted H.Text v next
-itemIs at (ItemV.Array v next) = accepted H.Array v next
-itemIs at (ItemV.True next) = accepted H.True 21 next
-itemIs at (ItemV.Null next) = accepted H.Null 22 next
-itemIs at (ItemV.Refused n) = refused n at
+abbrev pub item_is : ℕ → Item → Res H.Head
+item_is at (ItemV.Number v next) = accepted H.Number v next
+item_is at (ItemV.Negative v next) = accepted H.Negative v next
+item_is at (ItemV.ByteString v next) = accepted H.ByteString v next
+item_is at (ItemV.Text v next) = accepted H.Text v next
+item_is at (ItemV.Array v next) = accepted H.Array v next
+item_is at (ItemV.True next) = accepted H.True 21 next
+item_is at (ItemV.Null next) = accepted H.Null 22 next
+item_is at (ItemV.Refused n) = refused n at
 
 -- where content stands
-abbrev pub spanIs : Span → Model.Span
-spanIs s = record { start = s.start; length = s.length }
+abbrev pub span_is : Span → Model.Span
+span_is s = record { start = s.start; length = s.length }
 
 -- the number of a head of this kind, at a position
-abbrev pub argumentIs : H.Kind → ℕ → Argument → Res H.Head
-argumentIs k at (ArgumentV.Is v next) = accepted k v next
-argumentIs k at (ArgumentV.Refused n) = refused n at
+abbrev pub argument_is : H.Kind → ℕ → Argument → Res H.Head
+argument_is k at (ArgumentV.Is v next) = accepted k v next
+argument_is k at (ArgumentV.Refused n) = refused n at
 
 -- the least number that needs a head with the head information i, 24 to 27
-unfoldable pub leastOf : ℕ → ℕ
-leastOf i = cond (eqb i 24) 24 (cond (eqb i 25) 256 (cond (eqb i 26) 65536 4294967296))
+unfoldable pub least_of : ℕ → ℕ
+least_of i = cond (eqb i 24) 24 (cond (eqb i 25) 256 (cond (eqb i 26) 65536 4294967296))
 
 -- the last step of `read_head`: the head information i is that of the shortest head
-unfoldable pub ifShortest : H.Kind → ℕ → ℕ → ℕ → ℕ → Res H.Head
-ifShortest k v i next at = do
+unfoldable pub if_shortest : H.Kind → ℕ → ℕ → ℕ → ℕ → Res H.Head
+if_shortest k v i next at = do
   need (eqb (H.shortest v) i) HEAD at
   accepted k v next
 
 -- the steps of `read_head` after the kind, for the head information i
-unfoldable pub readArgument : H.Kind → ℕ → Bytes → ℕ → Res H.Head
-readArgument k i bs at = do
+unfoldable pub read_argument : H.Kind → ℕ → Bytes → ℕ → Res H.Head
+read_argument k i bs at = do
   need (ltb i 28) HEAD at
   need (leb (at + 1 + H.width i) (length bs)) CUT at
-  ifShortest k (H.valueFrom i (part bs (at + 1) (H.width i))) i (at + 1 + H.width i) at
+  if_shortest k (H.value_from i (part bs (at + 1) (H.width i))) i (at + 1 + H.width i) at

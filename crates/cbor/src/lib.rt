@@ -1,10 +1,10 @@
 // The heads of CBOR items (STD 94, section 3), read, and where an item's content stands.
 ghost use Rattle.std.specs.Prelude.{◌≡◌, ℕ, ◌+◌, ◌<◌, ◌≤◌, length};
-ghost use Rattle.rules.specs.Bytes.{part, numberFrom};
+ghost use Rattle.rules.specs.Bytes.{part, number_from};
 ghost use Rattle.rules.specs.Head.{Kind as Kind·rules, kind_of, width, read_head, Fits};
-ghost use Rattle.rules.specs.Reader.{spanAt};
+ghost use Rattle.rules.specs.Reader.{span_at};
 ghost use Rattle.rules.specs.Standing.{ItemStands};
-ghost use Rattle.cbor.specs.Heads.{kindIs, allows, itemIs, spanIs, accepted, argumentIs, leastOf, readArgument};
+ghost use Rattle.cbor.specs.Heads.{kind_is, allows, item_is, span_is, accepted, argument_is, least_of, read_argument};
 
 use numbers::{CUT, FORM, HEAD};
 
@@ -60,7 +60,7 @@ enum Argument {
 // The kind that a first byte above those of arrays gives.
 fn simple_of(b: u8) -> Kind
     requires { 0xA0 ≤ b }
-    ensures { kindIs result ≡ kind_of b }
+    ensures { kind_is result ≡ kind_of b }
 {
     match b {
         0xf5 => Kind::True,
@@ -71,7 +71,7 @@ fn simple_of(b: u8) -> Kind
 
 // The kind that a first byte gives.
 fn kind_of(b: u8) -> Kind
-    ensures { kindIs result ≡ kind_of b }
+    ensures { kind_is result ≡ kind_of b }
 {
     match b {
         0x00..=0x1f => Kind::Number,
@@ -85,7 +85,7 @@ fn kind_of(b: u8) -> Kind
 
 // Whether a kind is one of these.
 fn is_allowed(allowed: Kinds, kind: Kind) -> bool
-    ensures { result ≡ allows allowed (kindIs kind) }
+    ensures { result ≡ allows allowed (kind_is kind) }
 {
     match kind {
         Kind::Number => allowed.number,
@@ -102,7 +102,7 @@ fn is_allowed(allowed: Kinds, kind: Kind) -> bool
 // The number of w bytes from a position on, at most 8, the highest first.
 fn number_at(s: &[u8], from: usize, w: usize) -> u64
     requires { (from + w ≤ length s.now) × (w ≤ 8) }
-    ensures { result ≡ numberFrom 0 (part s.now from w) }
+    ensures { result ≡ number_from 0 (part s.now from w) }
 {
     let end = from + w;
     let mut i = from;
@@ -130,7 +130,7 @@ pub fn width_of(info: u8) -> usize
 
 // The least number that needs a head with this head information, 24 to 27.
 fn least_of(info: u8) -> u64
-    ensures { result ≡ leastOf info }
+    ensures { result ≡ least_of info }
 {
     match info {
         24 => 24,
@@ -143,7 +143,7 @@ fn least_of(info: u8) -> u64
 // The number that stands after the first byte of the head at a position.
 fn long_at(s: &[u8], at: usize, info: u8) -> Argument
     requires { (at < length s.now) × (24 ≤ info) × (info < 28) }
-    ensures { (k : Kind·rules) → argumentIs k at result ≡ readArgument k info s.now at }
+    ensures { (k : Kind·rules) → argument_is k at result ≡ read_argument k info s.now at }
 {
     let from = at + 1;
     let w = width_of(info);
@@ -163,7 +163,7 @@ fn long_at(s: &[u8], at: usize, info: u8) -> Argument
 // The number of the head at a position, by its head information: the lowest five bits of the first byte.
 fn argument_at(s: &[u8], at: usize, info: u8) -> Argument
     requires { at < length s.now }
-    ensures { (k : Kind·rules) → argumentIs k at result ≡ readArgument k info s.now at }
+    ensures { (k : Kind·rules) → argument_is k at result ≡ read_argument k info s.now at }
 {
     match info {
         0..=23 => Argument::Is {
@@ -177,8 +177,8 @@ fn argument_at(s: &[u8], at: usize, info: u8) -> Argument
 
 // The answer on a head that is accepted.
 fn item_of(kind: Kind, v: u64, next: usize) -> Item
-    requires { Fits (kindIs kind) v }
-    ensures { (at : ℕ) → itemIs at result ≡ accepted (kindIs kind) v next }
+    requires { Fits (kind_is kind) v }
+    ensures { (at : ℕ) → item_is at result ≡ accepted (kind_is kind) v next }
 {
     match kind {
         Kind::Number => Item::Number { value: v, next },
@@ -194,7 +194,7 @@ fn item_of(kind: Kind, v: u64, next: usize) -> Item
 
 // The head of the item at a position, where these kinds are allowed.
 pub fn item_at(s: &[u8], at: usize, allowed: Kinds) -> Item
-    ensures { itemIs at result ≡ read_head (allows allowed) s.now at }
+    ensures { item_is at result ≡ read_head (allows allowed) s.now at }
 {
     if s.len() <= at {
         return Item::Refused(CUT);
@@ -221,7 +221,7 @@ pub struct Span {
 // Where the content of an item that was accepted stands.
 pub fn span_at(s: &[u8], at: usize) -> Span
     requires { ItemStands s.now at }
-    ensures { spanIs result ≡ spanAt s.now at }
+    ensures { span_is result ≡ span_at s.now at }
 {
     let info = s[at] % 32;
     let from = at + 1;

@@ -1,8 +1,8 @@
 // The heads of CBOR items (STD 94, section 3), written into a lent room, and how long they are.
 ghost use Rattle.std.specs.Prelude.{◌≡◌, ◌+◌, ◌≤◌, length};
-ghost use Rattle.rules.specs.Head.{Kind as Kind·rules, shortest, majorOf, headBytes};
+ghost use Rattle.rules.specs.Head.{Kind as Kind·rules, shortest, major_of, head_bytes};
 ghost use Rattle.put.specs.Wrote.{Wrote};
-ghost use Rattle.cbor.specs.Heads.{kindIs};
+ghost use Rattle.cbor.specs.Heads.{kind_is};
 
 use cbor::Kind;
 use put::{put_big_endian, put_byte};
@@ -28,7 +28,7 @@ fn shortest_of(v: u64) -> u8
 
 // How many bytes the shortest head of a number has, for every kind.
 pub fn head_length(v: u64) -> usize
-    ensures { (k : Kind·rules) → result ≡ length (headBytes k v) }
+    ensures { (k : Kind·rules) → result ≡ length (head_bytes k v) }
 {
     match shortest_of(v) {
         24 => 2,
@@ -41,7 +41,7 @@ pub fn head_length(v: u64) -> usize
 
 // STD 94, section 3: the major type of a kind.
 fn major_of(kind: Kind) -> u8
-    ensures { result ≡ majorOf (kindIs kind) }
+    ensures { result ≡ major_of (kind_is kind) }
 {
     match kind {
         Kind::Number => 0,
@@ -57,8 +57,8 @@ fn major_of(kind: Kind) -> u8
 
 // The shortest head of this kind and number: true is 21, null 22.
 pub fn put_head(room: &mut [u8], at: usize, kind: Kind, v: u64) -> usize
-    requires { at + length (headBytes (kindIs kind) v) ≤ length room.old }
-    ensures { Wrote room.old at (headBytes (kindIs kind) v) room.new result }
+    requires { at + length (head_bytes (kind_is kind) v) ≤ length room.old }
+    ensures { Wrote room.old at (head_bytes (kind_is kind) v) room.new result }
 {
     let p = put_byte(room, at, major_of(kind) * 32 + shortest_of(v));
     put_big_endian(room, p, head_length(v) - 1, v)

@@ -7,36 +7,36 @@ use mathlib.Core.List.{List, ◌∷◌}
 use mathlib.Core.Option.{none, some}
 use lib.ListN.{take, get_elem?}
 use Rattle.rules.specs.Bytes.{Bytes}
-use Rattle.rules.specs.Reader.{spanAt, end_at, spans, contents, contentAt}
+use Rattle.rules.specs.Reader.{span_at, end_at, spans, contents, content_at}
 use Rattle.rules.specs.Standing.{ItemStands, RowAt}
 use Rattle.rules.proofs.RowWalk.{First}
-use Rattle.cbor_rows.specs.Rows.{nthAt}
+use Rattle.cbor_rows.specs.Rows.{nth_at}
 
 -- the first of them
-pub first-items : (bs : Bytes) (at count n : ℕ) → n ≤ count → RowAt bs at count → RowAt bs at n
-first-items bs at count zero h i = tt
-first-items bs at zero (suc n) h i = absurd (omega arith)
-first-items bs at (suc count) (suc n) h i = (i.0, first-items bs (end_at bs at) count n (omega arith) i.1)
+pub first_items : (bs : Bytes) (at count n : ℕ) → n ≤ count → RowAt bs at count → RowAt bs at n
+first_items bs at count zero h i = tt
+first_items bs at zero (suc n) h i = absurd (omega arith)
+first_items bs at (suc count) (suc n) h i = (i.0, first_items bs (end_at bs at) count n (omega arith) i.1)
 
 -- the contents of the first of them
-pub take-contents : (bs : Bytes) (at count n : ℕ) → n ≤ count → take n (contents bs at count) ≡ contents bs at n
+pub take_contents : (bs : Bytes) (at count n : ℕ) → n ≤ count → take n (contents bs at count) ≡ contents bs at n
 unfolding contents spans
-take-contents bs at count zero h = refl
-take-contents bs at zero (suc n) h = absurd (omega arith)
-take-contents bs at (suc count) (suc n) h = ap (λ (ts : List Bytes). contentAt bs at ∷ ts) (take-contents bs (end_at bs at) count n (omega arith))
+take_contents bs at count zero h = refl
+take_contents bs at zero (suc n) h = absurd (omega arith)
+take_contents bs at (suc count) (suc n) h = ap (λ (ts : List Bytes). content_at bs at ∷ ts) (take_contents bs (end_at bs at) count n (omega arith))
 
 -- the n-th of more than n items
-pub nth-stands : (bs : Bytes) (at n : ℕ) → RowAt bs at (suc n) → ItemStands bs (nthAt bs at n)
-unfolding nthAt
-nth-stands bs at zero i = i.0
-nth-stands bs at (suc n) i = nth-stands bs (end_at bs at) n i.1
+pub nth_stands : (bs : Bytes) (at n : ℕ) → RowAt bs at (suc n) → ItemStands bs (nth_at bs at n)
+unfolding nth_at
+nth_stands bs at zero i = i.0
+nth_stands bs at (suc n) i = nth_stands bs (end_at bs at) n i.1
 
 -- its span
-pub nth-span : (bs : Bytes) (at count n : ℕ) → n < count → get_elem? (spans bs at count) n ≡ some (spanAt bs (nthAt bs at n))
-unfolding spans nthAt
-nth-span bs at zero n h = absurd (omega arith)
-nth-span bs at (suc count) zero h = refl
-nth-span bs at (suc count) (suc n) h = nth-span bs (end_at bs at) count n (omega arith)
+pub nth_span : (bs : Bytes) (at count n : ℕ) → n < count → get_elem? (spans bs at count) n ≡ some (span_at bs (nth_at bs at n))
+unfolding spans nth_at
+nth_span bs at zero n h = absurd (omega arith)
+nth_span bs at (suc count) zero h = refl
+nth_span bs at (suc count) (suc n) h = nth_span bs (end_at bs at) count n (omega arith)
 
 -- there is none beyond them
 pub no_span : (bs : Bytes) (at count n : ℕ) → count ≤ n → get_elem? (spans bs at count) n ≡ none
@@ -46,13 +46,13 @@ no_span bs at (suc count) zero h = absurd (omega arith)
 no_span bs at (suc count) (suc n) h = no_span bs (end_at bs at) count n (omega arith)
 
 -- the position after them: past the first, as many less one
-pub after_first : {bs : Bytes} {here start n : ℕ} (left : ℕ) → 0 < left → First bs here left start n → nthAt bs (start + n) (left - 1) ≡ nthAt bs here left
-unfolding nthAt
+pub after_first : {bs : Bytes} {here start n : ℕ} (left : ℕ) → 0 < left → First bs here left start n → nth_at bs (start + n) (left - 1) ≡ nth_at bs here left
+unfolding nth_at
 after_first zero h w = absurd (omega arith)
-after_first {bs} (suc left) h w = simp sub-one (ap (λ (p : ℕ). nthAt bs p left) w.end)
+after_first {bs} (suc left) h w = simp sub-one (ap (λ (p : ℕ). nth_at bs p left) w.end)
 
 -- past none
-pub after_none : (bs : Bytes) (here left : ℕ) → left ≤ 0 → nthAt bs here left ≡ here
-unfolding nthAt
+pub after_none : (bs : Bytes) (here left : ℕ) → left ≤ 0 → nth_at bs here left ≡ here
+unfolding nth_at
 after_none bs here zero h = refl
 after_none bs here (suc left) h = absurd (omega arith)

@@ -4,7 +4,7 @@ use native.Mathlib.Omega.{arith}
 use mathlib.Core.Path.{◌≡◌, refl}
 use mathlib.Core.List.{List, [], ◌∷◌, ◌++◌}
 use Rattle.rules.specs.Bytes.{Bytes, part}
-use Rattle.rules.specs.Options.{optionBytes}
+use Rattle.rules.specs.Options.{option_bytes}
 use Rattle.rules.specs.Reader.{contents}
 use Rattle.rules.proofs.Tools.{length_part}
 use Rattle.rules.proofs.RowWalk.{First}
@@ -19,23 +19,23 @@ module _ {bs : Bytes} {next left start n : ℕ} (f : First bs next left start n)
   pub turn_small : AllSmall (contents bs next left) → Small n
   turn_small s = omega (arith, (smalls s).0, length_part bs start n f.inside)
 
-  pub turn-others : AllSmall (contents bs next left) → AllSmall (contents bs (start + n) (left - 1))
-  turn-others s = (smalls s).1
+  pub turn_others : AllSmall (contents bs next left) → AllSmall (contents bs (start + n) (left - 1))
+  turn_others s = (smalls s).1
 
   module _ (delta : ℕ) where
-    each : (t : Bytes) (ts : List Bytes) → coded delta (t ∷ ts) ≡ optionBytes delta t ++ coded 0 ts
+    each : (t : Bytes) (ts : List Bytes) → coded delta (t ∷ ts) ≡ option_bytes delta t ++ coded 0 ts
     unfolding coded
     each t ts = refl
 
-    pub turn-next : {room room₀ w₀ : Bytes} {o at : ℕ} → Left room o (coded delta (contents bs next left)) room₀ at w₀
-        → Next room o (optionBytes delta (part bs start n)) (coded 0 (contents bs (start + n) (left - 1))) room₀ at w₀
-    turn-next l = Rows.turn-next (coded delta) (coded 0) (optionBytes delta) each f l
+    pub turn_next : {room room₀ w₀ : Bytes} {o at : ℕ} → Left room o (coded delta (contents bs next left)) room₀ at w₀
+        → Next room o (option_bytes delta (part bs start n)) (coded 0 (contents bs (start + n) (left - 1))) room₀ at w₀
+    turn_next l = Rows.turn_next (coded delta) (coded 0) (option_bytes delta) each f l
 
-    pub turn-count : {p m : ℕ} → Count p (coded delta (contents bs next left)) m
-        → CountNext p (optionBytes delta (part bs start n)) (coded 0 (contents bs (start + n) (left - 1))) m
-    turn-count c = Rows.turn-count (coded delta) (coded 0) (optionBytes delta) each f c
+    pub turn_count : {p m : ℕ} → Count p (coded delta (contents bs next left)) m
+        → CountNext p (option_bytes delta (part bs start n)) (coded 0 (contents bs (start + n) (left - 1))) m
+    turn_count c = Rows.turn_count (coded delta) (coded 0) (option_bytes delta) each f c
 
 -- nothing is left of none
-pub none-coded : (delta : ℕ) (bs : Bytes) (next left : ℕ) → left ≤ 0 → coded delta (contents bs next left) ≡ []
+pub none_coded : (delta : ℕ) (bs : Bytes) (next left : ℕ) → left ≤ 0 → coded delta (contents bs next left) ≡ []
 unfolding coded
-none-coded delta bs next left h = Rows.none_of (coded delta) refl bs next left h
+none_coded delta bs next left h = Rows.none_of (coded delta) refl bs next left h

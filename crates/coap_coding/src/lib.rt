@@ -2,7 +2,7 @@
 ghost use Rattle.std.specs.Prelude.{◌+◌, ◌<◌, ◌≤◌, ◌≡◌, length};
 ghost use Rattle.rules.specs.Bytes.{Bytes, part};
 ghost use Rattle.rules.specs.Model.{limits};
-ghost use Rattle.rules.specs.Options.{nibble, extension, optionBytes};
+ghost use Rattle.rules.specs.Options.{nibble, extension, option_bytes};
 ghost use Rattle.rules.specs.Reader.{contents};
 ghost use Rattle.rules.specs.Standing.{RowAt};
 ghost use Rattle.put.specs.Wrote.{Wrote};
@@ -52,7 +52,7 @@ fn put_extension(room: &mut [u8], at: usize, n: usize) -> usize
 // How long an option is whose value has n bytes.
 pub fn option_length(delta: usize, n: usize) -> usize
     requires { Small delta × Small n }
-    ensures { (value : Bytes) → length value ≡ n → result ≡ length (optionBytes delta value) }
+    ensures { (value : Bytes) → length value ≡ n → result ≡ length (option_bytes delta value) }
 {
     1 + extension_length(delta) + extension_length(n) + n
 }
@@ -68,8 +68,8 @@ pub fn put_option(
 ) -> usize
     requires small { Small delta × Small n }
     requires n_in_bounds { from + n ≤ length src.now }
-    requires n_in_bounds_2 { at + length (optionBytes delta (part src.now from n)) ≤ length room.old }
-    ensures { Wrote room.old at (optionBytes delta (part src.now from n)) room.new result }
+    requires n_in_bounds_2 { at + length (option_bytes delta (part src.now from n)) ≤ length room.old }
+    ensures { Wrote room.old at (option_bytes delta (part src.now from n)) room.new result }
 {
     let p = put_byte(room, at, nibble_of(delta) * 16 + nibble_of(n));
     let q = put_extension(room, p, delta);

@@ -3,15 +3,15 @@ use Rattle.std.specs.Prelude.{ℕ, ◌-◌, ◌≤◌, ◌≡◌, Bool, true, fa
 use Rattle.std.proofs.Math.Option.{Option, none, some, get_or}
 use Rattle.rules.specs.Bytes.{Bytes}
 use Rattle.rules.specs.Result.{Res, refused, ok, BASE, COAP}
-use Rattle.rules.specs.Model.{limits, elements, normalPath}
-use Rattle.rules.specs.Reader.{contents, Slot, unset, set, HostAt, AuthorityAt, noScheme, number_at, name_at, OpeningAt, discardAt, discardAllAt, fullAt, Found}
-use Rattle.rules.specs.Meaning.{saidTexts, saidHost}
+use Rattle.rules.specs.Model.{limits, elements, normal_path}
+use Rattle.rules.specs.Reader.{contents, Slot, unset, set, HostAt, AuthorityAt, no_scheme, number_at, name_at, OpeningAt, discard_at, discard_all_at, full_at, Found}
+use Rattle.rules.specs.Meaning.{said_texts, said_host}
 use Rattle.rules.specs.Valid.{GoodPort}
-use Rattle.rules.specs.Options.{option, uriHost, uriPort, optionBytes, optionsFrom}
+use Rattle.rules.specs.Options.{option, uri_host, uri_port, option_bytes, options_from}
 use Rattle.rules.specs.Standing.{RowAt}
 use Rattle.coap_coding.specs.Coded.{Small, AllSmall, coded}
-use Rattle.schemes.specs.Schemes.{defaultPort}
-use Rattle.coap_values.specs.Values.{HostAsks, TextsAsk, valueIn, SmallValue}
+use Rattle.schemes.specs.Schemes.{default_port}
+use Rattle.coap_values.specs.Values.{HostAsks, TextsAsk, value_in, SmallValue}
 use Rattle.coap_values.specs.declared.Value.{Value}
 use Rattle.coap_values.specs.declared.Value.TheVariants as ValueV
 use Rattle.coap_options.specs.declared.Request.{Request}
@@ -20,32 +20,32 @@ use Rattle.coap_options.specs.declared.Deltas.{Deltas}
 -- ---- RULES 3.5, 7: what the call answers, by what was found
 
 -- 7: the options of a request that has this host, port, path and query
-unfoldable pub optionsAt : Bytes → HostAt → ℕ → Slot → Slot → Bytes → ℕ → Bytes
-optionsAt bs host port path query toAddress toPort =
-    optionsFrom 0
-    (uriHost (saidHost bs host) toAddress
-    ++ uriPort port toPort
-    ++ map (option 11) (normalPath (elements (saidTexts bs path)))
-    ++ map (option 15) (elements (saidTexts bs query)))
+unfoldable pub options_at : Bytes → HostAt → ℕ → Slot → Slot → Bytes → ℕ → Bytes
+options_at bs host port path query toAddress toPort =
+    options_from 0
+    (uri_host (said_host bs host) toAddress
+    ++ uri_port port toPort
+    ++ map (option 11) (normal_path (elements (said_texts bs path)))
+    ++ map (option 15) (elements (said_texts bs query)))
 
 -- 3.5: 11 where there is no default port, which the six schemes have, or a fragment is set
-unfoldable pub defaultAnswer : Option ℕ → Slot → (ℕ → Bytes) → Res Bytes
-defaultAnswer none fragment w = refused COAP 0
-defaultAnswer (some d) (set at n) w = refused COAP 0
-defaultAnswer (some d) unset w = ok (w d)
+unfoldable pub default_answer : Option ℕ → Slot → (ℕ → Bytes) → Res Bytes
+default_answer none fragment w = refused COAP 0
+default_answer (some d) (set at n) w = refused COAP 0
+default_answer (some d) unset w = ok (w d)
 
 -- 7.2: the port, or else the default
-abbrev pub numberAnswer : Bytes → ℕ → AuthorityAt → Found → Bytes → ℕ → Res Bytes
-numberAnswer bs n a f toAddress toPort =
-    defaultAnswer (defaultPort n) f.fragment (λ (d : ℕ). optionsAt bs a.host (get_or a.port d) f.path f.query toAddress toPort)
+abbrev pub number_answer : Bytes → ℕ → AuthorityAt → Found → Bytes → ℕ → Res Bytes
+number_answer bs n a f toAddress toPort =
+    default_answer (default_port n) f.fragment (λ (d : ℕ). options_at bs a.host (get_or a.port d) f.path f.query toAddress toPort)
 
 -- 3.5: 8 where it is not absolute, 11 where the scheme is a text
-abbrev pub openingAnswer : Bytes → OpeningAt → Found → Bytes → ℕ → Res Bytes
-openingAnswer bs (discardAt k) f toAddress toPort = refused BASE 0
-openingAnswer bs discardAllAt f toAddress toPort = refused BASE 0
-openingAnswer bs (fullAt noScheme a) f toAddress toPort = refused BASE 0
-openingAnswer bs (fullAt (number_at n) a) f toAddress toPort = numberAnswer bs n a f toAddress toPort
-openingAnswer bs (fullAt (name_at at n) a) f toAddress toPort = refused COAP 0
+abbrev pub opening_answer : Bytes → OpeningAt → Found → Bytes → ℕ → Res Bytes
+opening_answer bs (discard_at k) f toAddress toPort = refused BASE 0
+opening_answer bs discard_all_at f toAddress toPort = refused BASE 0
+opening_answer bs (full_at no_scheme a) f toAddress toPort = refused BASE 0
+opening_answer bs (full_at (number_at n) a) f toAddress toPort = number_answer bs n a f toAddress toPort
+opening_answer bs (full_at (name_at at n) a) f toAddress toPort = refused COAP 0
 
 -- ---- what is known of the positions
 
@@ -55,9 +55,9 @@ AuthorityAsks bs a = HostAsks bs a.host × GoodPort a.port
 
 -- where there are any
 abbrev pub OpeningAsks : Bytes → OpeningAt → Type 0
-OpeningAsks bs (discardAt k) = Unit {0}
-OpeningAsks bs discardAllAt = Unit {0}
-OpeningAsks bs (fullAt s a) = AuthorityAsks bs a
+OpeningAsks bs (discard_at k) = Unit {0}
+OpeningAsks bs discard_all_at = Unit {0}
+OpeningAsks bs (full_at s a) = AuthorityAsks bs a
 
 -- and of the whole
 pub record Asks (bs : Bytes) (f : Found) : Type 0 where
@@ -69,13 +69,13 @@ pub record Asks (bs : Bytes) (f : Found) : Type 0 where
 -- ---- RULES 7.6: the coding, piece by piece
 
 -- an option, if it is set
-abbrev pub valueCoded : ℕ → Option Bytes → Bytes
-valueCoded delta none = []
-valueCoded delta (some v) = optionBytes delta v
+abbrev pub value_coded : ℕ → Option Bytes → Bytes
+value_coded delta none = []
+value_coded delta (some v) = option_bytes delta v
 
 -- the number of the last option: this one, if there is an option of it, else the one before
-abbrev pub numberAfter : ℕ → ℕ → Bool → ℕ
-numberAfter before number any = cond any number before
+abbrev pub number_after : ℕ → ℕ → Bool → ℕ
+number_after before number any = cond any number before
 
 -- whether it is set
 abbrev pub is_set : Value → Bool
@@ -84,15 +84,15 @@ is_set (ValueV.Is n) = true
 
 -- the difference of each number from the one before, where Uri-Host is set or not (h), Uri-Port is (p), and there are segments or none (s)
 pub record DeltasAre (h p s : Bool) (d : Deltas) : Type 0 where
-  pub port : d.port ≡ 7 - numberAfter 0 3 h
-  pub path : d.path ≡ 11 - numberAfter (numberAfter 0 3 h) 7 p
-  pub query : d.query ≡ 15 - numberAfter (numberAfter (numberAfter 0 3 h) 7 p) 11 s
+  pub port : d.port ≡ 7 - number_after 0 3 h
+  pub path : d.path ≡ 11 - number_after (number_after 0 3 h) 7 p
+  pub query : d.query ≡ 15 - number_after (number_after (number_after 0 3 h) 7 p) 11 s
 
 -- the values at the starts of two byte strings, and the texts of an input
-abbrev pub piecesAt : Bytes → Bytes → Bytes → Request → Deltas → Bytes
-piecesAt hostSrc portSrc bs r d =
-    valueCoded 3 (valueIn hostSrc r.host)
-    ++ (valueCoded d.port (valueIn portSrc r.port)
+abbrev pub pieces_at : Bytes → Bytes → Bytes → Request → Deltas → Bytes
+pieces_at hostSrc portSrc bs r d =
+    value_coded 3 (value_in hostSrc r.host)
+    ++ (value_coded d.port (value_in portSrc r.port)
     ++ (coded d.path (contents bs r.path.at r.path.count)
     ++ coded d.query (contents bs r.query.at r.query.count)))
 

@@ -3,13 +3,13 @@ ghost use Rattle.std.specs.Prelude.{◌+◌, ◌≤◌, ◌≡◌, length, ltb};
 ghost use Rattle.rules.specs.Bytes.{Bytes};
 ghost use Rattle.rules.specs.Model.{limits};
 ghost use Rattle.rules.specs.Result.{ok};
-ghost use Rattle.rules.specs.Calls.{outcome, after, optionsCall};
+ghost use Rattle.rules.specs.Calls.{outcome, after, options_call};
 ghost use Rattle.put.specs.Wrote.{Wrote};
-ghost use Rattle.reader.specs.Answers.{slot_of, hostOf, authorityOf, openingOf, foundOf};
-ghost use Rattle.outcomes.specs.Answers.{outcomeIs};
+ghost use Rattle.reader.specs.Answers.{slot_of, host_of, authority_of, opening_of, found_of};
+ghost use Rattle.outcomes.specs.Answers.{outcome_is};
 ghost use Rattle.coap_coding.specs.Coded.{Small};
-ghost use Rattle.coap_values.specs.Values.{HostAsks, TextsAsk, valueIn, Inside, SmallValue};
-ghost use Rattle.coap_options.specs.Requests.{optionsAt, numberAnswer, openingAnswer, AuthorityAsks, Asks, valueCoded, numberAfter, is_set, DeltasAre, piecesAt, Stands, DeltasSmall};
+ghost use Rattle.coap_values.specs.Values.{HostAsks, TextsAsk, value_in, Inside, SmallValue};
+ghost use Rattle.coap_options.specs.Requests.{options_at, number_answer, opening_answer, AuthorityAsks, Asks, value_coded, number_after, is_set, DeltasAre, pieces_at, Stands, DeltasSmall};
 
 use coap_coding::{option_length, put_option, put_row, row_length};
 use coap_values::{Row, Value, host_value, parameters, port_or, port_value, segments};
@@ -49,7 +49,7 @@ fn is_set(value: Value) -> bool
 
 // The number of the last option: this one, if there is an option of it, else the one before.
 fn number_after(before: usize, number: usize, any: bool) -> usize
-    ensures { result ≡ numberAfter before number any }
+    ensures { result ≡ number_after before number any }
 {
     if any {
         return number;
@@ -79,7 +79,7 @@ fn deltas_of(request: Request) -> Deltas
 // How long an option is, if it is set.
 fn value_length(delta: usize, value: Value) -> usize
     requires { Small delta × SmallValue value }
-    ensures { (src : Bytes) → Inside src value → result ≡ length (valueCoded delta (valueIn src value)) }
+    ensures { (src : Bytes) → Inside src value → result ≡ length (value_coded delta (value_in src value)) }
 {
     match value {
         Value::Unset => 0,
@@ -91,8 +91,8 @@ fn value_length(delta: usize, value: Value) -> usize
 fn put_value(room: &mut [u8], at: usize, delta: usize, src: &[u8], value: Value) -> usize
     requires small { Small delta × SmallValue value }
     requires inside { Inside src.now value }
-    requires value_in_bounds { at + length (valueCoded delta (valueIn src.now value)) ≤ length room.old }
-    ensures { Wrote room.old at (valueCoded delta (valueIn src.now value)) room.new result }
+    requires value_in_bounds { at + length (value_coded delta (value_in src.now value)) ≤ length room.old }
+    ensures { Wrote room.old at (value_coded delta (value_in src.now value)) room.new result }
 {
     match value {
         Value::Unset => at,
@@ -104,7 +104,7 @@ fn put_value(room: &mut [u8], at: usize, delta: usize, src: &[u8], value: Value)
 fn options_length(s: &[u8], request: Request, deltas: Deltas) -> usize
     requires s_len_bound { length s.now ≤ limits.bytes }
     requires stands { Stands s.now request × DeltasSmall deltas }
-    ensures { (hostSrc portSrc : Bytes) → Inside hostSrc request.host → Inside portSrc request.port → result ≡ length (piecesAt hostSrc portSrc s.now request deltas) }
+    ensures { (hostSrc portSrc : Bytes) → Inside hostSrc request.host → Inside portSrc request.port → result ≡ length (pieces_at hostSrc portSrc s.now request deltas) }
 {
     let host = request.host;
     let port = request.port;
@@ -127,8 +127,8 @@ fn put_options(
 ) -> usize
     requires stands { Stands s.now request × DeltasSmall deltas }
     requires inside { Inside host_src.now request.host × Inside port_src.now request.port }
-    requires deltas_in_bounds { length (piecesAt host_src.now port_src.now s.now request deltas) ≤ length room.old }
-    ensures { Wrote room.old 0 (piecesAt host_src.now port_src.now s.now request deltas) room.new result }
+    requires deltas_in_bounds { length (pieces_at host_src.now port_src.now s.now request deltas) ≤ length room.old }
+    ensures { Wrote room.old 0 (pieces_at host_src.now port_src.now s.now request deltas) room.new result }
 {
     let host = request.host;
     let port = request.port;
@@ -154,10 +154,10 @@ fn requested(
     room: &mut [u8],
 ) -> Outcome
     requires s_len_bound { length s.now ≤ limits.bytes }
-    requires host_asks { HostAsks s.now (hostOf host) × (port ≤ 65535) }
+    requires host_asks { HostAsks s.now (host_of host) × (port ≤ 65535) }
     requires texts_ask { TextsAsk s.now (slot_of path) × TextsAsk s.now (slot_of query) }
-    ensures result_value { outcomeIs result ≡ outcome (ok (optionsAt s.now (hostOf host) port (slot_of path) (slot_of query) to_address.now to_port)) (length room.old) }
-    ensures room_after { room.new ≡ after (ok (optionsAt s.now (hostOf host) port (slot_of path) (slot_of query) to_address.now to_port)) room.old }
+    ensures result_value { outcome_is result ≡ outcome (ok (options_at s.now (host_of host) port (slot_of path) (slot_of query) to_address.now to_port)) (length room.old) }
+    ensures room_after { room.new ≡ after (ok (options_at s.now (host_of host) port (slot_of path) (slot_of query) to_address.now to_port)) room.old }
 {
     let mut host_src = [0u8; NAME_BYTES];
     let mut port_src = [0u8; 2];
@@ -184,10 +184,10 @@ fn options_of_number(
     to_port: u64,
     room: &mut [u8],
 ) -> Outcome
-    requires asks { Asks s.now (foundOf found) }
-    requires authority_asks { AuthorityAsks s.now (authorityOf authority) }
-    ensures result_value { outcomeIs result ≡ outcome (numberAnswer s.now n (authorityOf authority) (foundOf found) to_address.now to_port) (length room.old) }
-    ensures room_after { room.new ≡ after (numberAnswer s.now n (authorityOf authority) (foundOf found) to_address.now to_port) room.old }
+    requires asks { Asks s.now (found_of found) }
+    requires authority_asks { AuthorityAsks s.now (authority_of authority) }
+    ensures result_value { outcome_is result ≡ outcome (number_answer s.now n (authority_of authority) (found_of found) to_address.now to_port) (length room.old) }
+    ensures room_after { room.new ≡ after (number_answer s.now n (authority_of authority) (found_of found) to_address.now to_port) room.old }
 {
     let host = authority.host;
     let port = authority.port;
@@ -220,9 +220,9 @@ fn options_of_found(
     to_port: u64,
     room: &mut [u8],
 ) -> Outcome
-    requires { Asks s.now (foundOf found) }
-    ensures result_value { outcomeIs result ≡ outcome (openingAnswer s.now (openingOf found.opening) (foundOf found) to_address.now to_port) (length room.old) }
-    ensures room_after { room.new ≡ after (openingAnswer s.now (openingOf found.opening) (foundOf found) to_address.now to_port) room.old }
+    requires { Asks s.now (found_of found) }
+    ensures result_value { outcome_is result ≡ outcome (opening_answer s.now (opening_of found.opening) (found_of found) to_address.now to_port) (length room.old) }
+    ensures room_after { room.new ≡ after (opening_answer s.now (opening_of found.opening) (found_of found) to_address.now to_port) room.old }
 {
     let opening = found.opening;
     match opening {
@@ -240,8 +240,8 @@ fn options_of_found(
 
 // The answer, and the options in the room.
 pub fn options(s: &[u8], address: &[u8], port: u16, room: &mut [u8]) -> Outcome
-    ensures result_value { outcomeIs result ≡ outcome (optionsCall limits s.now address.now port) (length room.old) }
-    ensures room_after { room.new ≡ after (optionsCall limits s.now address.now port) room.old }
+    ensures result_value { outcome_is result ≡ outcome (options_call limits s.now address.now port) (length room.old) }
+    ensures room_after { room.new ≡ after (options_call limits s.now address.now port) room.old }
 {
     if reader::is_address_length(address.len() as u64) {
         return match reader::read(s) {

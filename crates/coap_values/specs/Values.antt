@@ -3,9 +3,9 @@ use Rattle.std.specs.Prelude.{ℕ, ◌≤◌, ◌<◌, ◌≡◌, cond, List, �
 use Rattle.std.proofs.Math.Option.{Option, none, some}
 use Rattle.rules.specs.Bytes.{Bytes, part, dot, same, concat, join}
 use Rattle.rules.specs.Model.{Host, address, labels}
-use Rattle.rules.specs.Address.{addressText}
-use Rattle.rules.specs.Options.{portBytes}
-use Rattle.rules.specs.Reader.{contents, Slot, unset, set, HostAt, addressAt, labelsAt}
+use Rattle.rules.specs.Address.{address_text}
+use Rattle.rules.specs.Options.{port_bytes}
+use Rattle.rules.specs.Reader.{contents, Slot, unset, set, HostAt, address_at, labels_at}
 use Rattle.rules.specs.Standing.{RowAt}
 use Rattle.addresses.specs.AddressAt.{AddressAt}
 use Rattle.coap_coding.specs.Coded.{Small, AllSmall}
@@ -15,13 +15,13 @@ use Rattle.coap_values.specs.declared.Value.TheVariants as ValueV
 -- ---- the values of options that a request has at most once; none where it has no such option
 
 -- RULES 7.1: the joined labels, or the host's URI form if the address differs from the destination's
-unfoldable pub hostValue : Host Bytes → Bytes → Option Bytes
-hostValue (labels ls) toAddress = some (join dot ls)
-hostValue (address a) toAddress = cond (same a toAddress) none (some (addressText a))
+unfoldable pub host_value : Host Bytes → Bytes → Option Bytes
+host_value (labels ls) toAddress = some (join dot ls)
+host_value (address a) toAddress = cond (same a toAddress) none (some (address_text a))
 
 -- RULES 7.2: a port that differs from the destination's
-unfoldable pub portValue : ℕ → ℕ → Option Bytes
-portValue port toPort = cond (eqb port toPort) none (some (portBytes port))
+unfoldable pub port_value : ℕ → ℕ → Option Bytes
+port_value port toPort = cond (eqb port toPort) none (some (port_bytes port))
 
 -- each text after a "."
 abbrev pub dotted : List Bytes → Bytes
@@ -31,8 +31,8 @@ dotted ts = concat (map (λ (t : Bytes). dot ∷ t) ts)
 
 -- an address of 4 or 16 bytes, or labels, and at most 255 bytes in the option's value
 abbrev pub HostAsks : Bytes → HostAt → Type 0
-HostAsks bs (addressAt at n) = AddressAt bs at n × (length (addressText (part bs at n)) ≤ 255)
-HostAsks bs (labelsAt at n) = (RowAt bs at n × (0 < n)) × (length (join dot (contents bs at n)) ≤ 255)
+HostAsks bs (address_at at n) = AddressAt bs at n × (length (address_text (part bs at n)) ≤ 255)
+HostAsks bs (labels_at at n) = (RowAt bs at n × (0 < n)) × (length (join dot (contents bs at n)) ≤ 255)
 
 -- segments or parameters
 abbrev pub TextsAsk : Bytes → Slot → Type 0
@@ -42,9 +42,9 @@ TextsAsk bs (set at n) = RowAt bs at n × AllSmall (contents bs at n)
 -- ---- what the answers say
 
 -- the value at the start of the bytes
-abbrev pub valueIn : Bytes → Value → Option Bytes
-valueIn src ValueV.Unset = none
-valueIn src (ValueV.Is n) = some (part src 0 n)
+abbrev pub value_in : Bytes → Value → Option Bytes
+value_in src ValueV.Unset = none
+value_in src (ValueV.Is n) = some (part src 0 n)
 
 -- it lies inside them
 abbrev pub Inside : Bytes → Value → Type 0
@@ -58,7 +58,7 @@ SmallValue (ValueV.Is n) = Small n
 
 -- the bytes hold the value v
 pub record Valued (src : Bytes) (r : Value) (v : Option Bytes) : Type 0 where
-  pub says : valueIn src r ≡ v
+  pub says : value_in src r ≡ v
   pub inside : Inside src r
   pub small : SmallValue r
 

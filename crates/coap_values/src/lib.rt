@@ -2,14 +2,14 @@
 ghost use Rattle.std.specs.Prelude.{◌+◌, ◌≤◌, ◌<◌, ◌≡◌, length};
 ghost use Rattle.std.proofs.Math.Option.{get_or};
 ghost use Rattle.rules.specs.Bytes.{Bytes, dot, join};
-ghost use Rattle.rules.specs.Model.{elements, normalPath};
-ghost use Rattle.rules.specs.Options.{portBytes};
+ghost use Rattle.rules.specs.Model.{elements, normal_path};
+ghost use Rattle.rules.specs.Options.{port_bytes};
 ghost use Rattle.rules.specs.Reader.{contents};
-ghost use Rattle.rules.specs.Meaning.{saidTexts, saidHost};
+ghost use Rattle.rules.specs.Meaning.{said_texts, said_host};
 ghost use Rattle.rules.specs.Standing.{RowAt};
 ghost use Rattle.put.specs.Wrote.{Wrote};
-ghost use Rattle.reader.specs.Answers.{slot_of, hostOf, portOf};
-ghost use Rattle.coap_values.specs.Values.{hostValue, portValue, dotted, Valued, RowOf, HostAsks, TextsAsk};
+ghost use Rattle.reader.specs.Answers.{slot_of, host_of, port_of};
+ghost use Rattle.coap_values.specs.Values.{host_value, port_value, dotted, Valued, RowOf, HostAsks, TextsAsk};
 
 use addresses::put_address;
 use cbor::span_at;
@@ -57,9 +57,9 @@ fn put_labels(room: &mut [u8], s: &[u8], from: usize, count: usize) -> usize
 
 // The value of Uri-Host, made in the room: the joined labels, or the text of an address that is not the destination's.
 pub fn host_value(room: &mut [u8], s: &[u8], host: HostAt, to_address: &[u8]) -> Value
-    requires host_asks { HostAsks s.now (hostOf host) }
+    requires host_asks { HostAsks s.now (host_of host) }
     requires in_bounds { 255 ≤ length room.old }
-    ensures { Valued room.new result (hostValue (saidHost s.now (hostOf host)) to_address.now) }
+    ensures { Valued room.new result (host_value (said_host s.now (host_of host)) to_address.now) }
 {
     match host {
         HostAt::Address {
@@ -79,7 +79,7 @@ pub fn host_value(room: &mut [u8], s: &[u8], host: HostAt, to_address: &[u8]) ->
 
 // The port that is set, or else the default one.
 pub fn port_or(port: Port, default: u64) -> u64
-    ensures { result ≡ get_or (portOf port) default }
+    ensures { result ≡ get_or (port_of port) default }
 {
     match port {
         Port::Unset => default,
@@ -89,7 +89,7 @@ pub fn port_or(port: Port, default: u64) -> u64
 
 // How many bytes a port has without leading zeros.
 fn port_width(p: u64) -> usize
-    ensures { result ≡ length (portBytes p) }
+    ensures { result ≡ length (port_bytes p) }
 {
     if p == 0 {
         return 0;
@@ -104,7 +104,7 @@ fn port_width(p: u64) -> usize
 pub fn port_value(room: &mut [u8], port: u64, to_port: u64) -> Value
     requires port_bound { port ≤ 65535 }
     requires in_bounds { 2 ≤ length room.old }
-    ensures { Valued room.new result (portValue port to_port) }
+    ensures { Valued room.new result (port_value port to_port) }
 {
     if port == to_port {
         return Value::Unset;
@@ -124,7 +124,7 @@ pub struct Row {
 // The segments; none for a path of one empty segment.
 pub fn segments(s: &[u8], path: Slot) -> Row
     requires { TextsAsk s.now (slot_of path) }
-    ensures { RowOf s.now result.at result.count (normalPath (elements (saidTexts s.now (slot_of path)))) }
+    ensures { RowOf s.now result.at result.count (normal_path (elements (said_texts s.now (slot_of path)))) }
 {
     match path {
         Slot::Unset => Row { at: 0, count: 0 },
@@ -142,7 +142,7 @@ pub fn segments(s: &[u8], path: Slot) -> Row
 
 // The parameters.
 pub fn parameters(query: Slot) -> Row
-    ensures { (bs : Bytes) → TextsAsk bs (slot_of query) → RowOf bs result.at result.count (elements (saidTexts bs (slot_of query))) }
+    ensures { (bs : Bytes) → TextsAsk bs (slot_of query) → RowOf bs result.at result.count (elements (said_texts bs (slot_of query))) }
 {
     match query {
         Slot::Unset => Row { at: 0, count: 0 },

@@ -2,9 +2,9 @@
 use Rattle.std.specs.Prelude.{ℕ, zero, suc, ◌+◌, ◌*◌, List, [], ◌∷◌, get_or, drop}
 use Rattle.std.proofs.Math.Option.{Option, none, some}
 use Rattle.rules.specs.Model as Model
-use Rattle.rules.specs.Model.{limits, mostLabels, mostParameters}
-use Rattle.cbor.specs.Heads.{spanIs}
-use Rattle.reader.specs.Answers.{portOf}
+use Rattle.rules.specs.Model.{limits, most_labels, most_parameters}
+use Rattle.cbor.specs.Heads.{span_is}
+use Rattle.reader.specs.Answers.{port_of}
 use Rattle.components.specs.declared.Scheme.{Scheme}
 use Rattle.components.specs.declared.Scheme.TheVariants as SchemeV
 use Rattle.components.specs.declared.Authority.{Authority}
@@ -18,79 +18,79 @@ use Rattle.components.specs.declared.Fragment.TheVariants as FragmentV
 use Rattle.components.specs.declared.Components.{Components}
 
 -- the k-th span, counted from 0
-abbrev pub numberedSpan : List ℕ → ℕ → Model.Span
-numberedSpan xs k = record { start = get_or xs (2 * k) 0; length = get_or xs (2 * k + 1) 0 }
+abbrev pub numbered_span : List ℕ → ℕ → Model.Span
+numbered_span xs k = record { start = get_or xs (2 * k) 0; length = get_or xs (2 * k + 1) 0 }
 
 -- n spans, start and length of each; beyond the numbers there are zeros, so that a count over them is still that count
-unfoldable pub spansOf : ℕ → List ℕ → List Model.Span
-spansOf zero xs = []
-spansOf (suc n) xs = numberedSpan xs 0 ∷ spansOf n (drop 2 xs)
+unfoldable pub spans_of : ℕ → List ℕ → List Model.Span
+spans_of zero xs = []
+spans_of (suc n) xs = numbered_span xs 0 ∷ spans_of n (drop 2 xs)
 
 -- the scheme's number, or where its text stands
-abbrev pub schemeOf : Scheme → Option (Model.Scheme Model.Span)
-schemeOf SchemeV.Unset = none
-schemeOf (SchemeV.Number n) = some (Model.number n)
-schemeOf (SchemeV.Name t) = some (Model.name (spanIs t))
+abbrev pub scheme_of : Scheme → Option (Model.Scheme Model.Span)
+scheme_of SchemeV.Unset = none
+scheme_of (SchemeV.Number n) = some (Model.number n)
+scheme_of (SchemeV.Name t) = some (Model.name (span_is t))
 
 -- the host and its port; the numbers begin with those of the labels
-abbrev pub authorityOf : List ℕ → Authority → Option (Model.Authority Model.Span)
-authorityOf xs AuthorityV.Unset = none
-authorityOf xs (AuthorityV.Address a p) = some (record { host = Model.address (spanIs a); port = portOf p })
-authorityOf xs (AuthorityV.Labels n p) = some (record { host = Model.labels (spansOf n xs); port = portOf p })
+abbrev pub authority_of : List ℕ → Authority → Option (Model.Authority Model.Span)
+authority_of xs AuthorityV.Unset = none
+authority_of xs (AuthorityV.Address a p) = some (record { host = Model.address (span_is a); port = port_of p })
+authority_of xs (AuthorityV.Labels n p) = some (record { host = Model.labels (spans_of n xs); port = port_of p })
 
 -- the discard, or scheme and authority
-abbrev pub openingOf : List ℕ → Opening → Model.Opening Model.Span
-openingOf xs (OpeningV.Discard k) = Model.discard k
-openingOf xs OpeningV.DiscardAll = Model.discardAll
-openingOf xs (OpeningV.Full s a) = Model.full (schemeOf s) (authorityOf xs a)
+abbrev pub opening_of : List ℕ → Opening → Model.Opening Model.Span
+opening_of xs (OpeningV.Discard k) = Model.discard k
+opening_of xs OpeningV.DiscardAll = Model.discard_all
+opening_of xs (OpeningV.Full s a) = Model.full (scheme_of s) (authority_of xs a)
 
 -- a path or a query; the numbers begin with those of its texts
-abbrev pub textsOf : List ℕ → Texts → Option (List Model.Span)
-textsOf xs TextsV.Unset = none
-textsOf xs (TextsV.Set n) = some (spansOf n xs)
+abbrev pub texts_of : List ℕ → Texts → Option (List Model.Span)
+texts_of xs TextsV.Unset = none
+texts_of xs (TextsV.Set n) = some (spans_of n xs)
 
 -- where the fragment stands
-abbrev pub fragmentOf : Fragment → Option Model.Span
-fragmentOf FragmentV.Unset = none
-fragmentOf (FragmentV.Is t) = some (spanIs t)
+abbrev pub fragment_of : Fragment → Option Model.Span
+fragment_of FragmentV.Unset = none
+fragment_of (FragmentV.Is t) = some (span_is t)
 
 -- ---- the texts that stand in the array: labels, then segments, then parameters
 
 -- how many numbers the array has
-abbrev pub mostNumbers : ℕ
-mostNumbers = 2 * (mostLabels + limits.segments + mostParameters)
+abbrev pub most_numbers : ℕ
+most_numbers = 2 * (most_labels + limits.segments + most_parameters)
 
 -- how many labels an authority has
-abbrev pub hostCount : Authority → ℕ
-hostCount AuthorityV.Unset = 0
-hostCount (AuthorityV.Address a p) = 0
-hostCount (AuthorityV.Labels n p) = n
+abbrev pub host_count : Authority → ℕ
+host_count AuthorityV.Unset = 0
+host_count (AuthorityV.Address a p) = 0
+host_count (AuthorityV.Labels n p) = n
 
 -- how many labels an opening has
-abbrev pub labelCount : Opening → ℕ
-labelCount (OpeningV.Discard k) = 0
-labelCount OpeningV.DiscardAll = 0
-labelCount (OpeningV.Full s a) = hostCount a
+abbrev pub label_count : Opening → ℕ
+label_count (OpeningV.Discard k) = 0
+label_count OpeningV.DiscardAll = 0
+label_count (OpeningV.Full s a) = host_count a
 
 -- how many texts a path or a query has
-abbrev pub textCount : Texts → ℕ
-textCount TextsV.Unset = 0
-textCount (TextsV.Set n) = n
+abbrev pub text_count : Texts → ℕ
+text_count TextsV.Unset = 0
+text_count (TextsV.Set n) = n
 
 -- the place of the first segment
-abbrev pub pathPlace : Components → ℕ
-pathPlace c = 2 * labelCount c.opening
+abbrev pub path_place : Components → ℕ
+path_place c = 2 * label_count c.opening
 
 -- the place of the first parameter
-abbrev pub queryPlace : Components → ℕ
-queryPlace c = pathPlace c + 2 * textCount c.path
+abbrev pub query_place : Components → ℕ
+query_place c = path_place c + 2 * text_count c.path
 
 -- all of them
-abbrev pub componentsOf : List ℕ → Components → Model.Components
-componentsOf xs c =
+abbrev pub components_of : List ℕ → Components → Model.Components
+components_of xs c =
     record {
-      opening = openingOf xs c.opening;
-      path = textsOf (drop (pathPlace c) xs) c.path;
-      query = textsOf (drop (queryPlace c) xs) c.query;
-      fragment = fragmentOf c.fragment;
+      opening = opening_of xs c.opening;
+      path = texts_of (drop (path_place c) xs) c.path;
+      query = texts_of (drop (query_place c) xs) c.query;
+      fragment = fragment_of c.fragment;
     }

@@ -3,17 +3,17 @@ ghost use Rattle.std.specs.Prelude.{◌+◌, ◌≤◌, ◌≡◌, length, get_o
 ghost use Rattle.std.proofs.Math.Option.{some};
 ghost use Rattle.rules.specs.Bytes.{Bytes};
 ghost use Rattle.rules.specs.Result.{ok};
-ghost use Rattle.rules.specs.Model.{elements, limits, mostLabels};
+ghost use Rattle.rules.specs.Model.{elements, limits, most_labels};
 ghost use Rattle.rules.specs.Reader.{spans};
-ghost use Rattle.rules.specs.Meaning.{schemeSpan, authoritySpans, openingSpans, textSpans, textSpan, components};
-ghost use Rattle.rules.specs.Calls.{readCall};
-ghost use Rattle.rules.specs.Writing.{openingLabels};
+ghost use Rattle.rules.specs.Meaning.{scheme_span, authority_spans, opening_spans, text_spans, text_span, components};
+ghost use Rattle.rules.specs.Calls.{read_call};
+ghost use Rattle.rules.specs.Writing.{opening_labels};
 ghost use Rattle.rules.specs.Standing.{RowAt, TextsStand, OpeningStands, FoundStands};
 ghost use Rattle.put.specs.Wrote.{Wrote};
-ghost use Rattle.reader.specs.Answers.{slot_of, authorityOf, schemeOf, openingOf, foundOf};
-ghost use Rattle.cbor.specs.Heads.{spanIs};
-ghost use Rattle.components.specs.Content.{numberedSpan, labelCount, textCount};
-ghost use Rattle.components.specs.Layout.{schemeLaid, authorityLaid, openingLaid, textsLaid, fragmentLaid, noComponents, componentsLaid, readingLaid, spanNumbers, spansAfter, TextsAt};
+ghost use Rattle.reader.specs.Answers.{slot_of, authority_of, scheme_of, opening_of, found_of};
+ghost use Rattle.cbor.specs.Heads.{span_is};
+ghost use Rattle.components.specs.Content.{numbered_span, label_count, text_count};
+ghost use Rattle.components.specs.Layout.{scheme_laid, authority_laid, opening_laid, texts_laid, fragment_laid, no_components, components_laid, reading_laid, span_numbers, spans_after, TextsAt};
 
 pub use cbor::Span;
 use cbor::span_at;
@@ -80,7 +80,7 @@ pub struct Reading {
 
 // How many labels an opening has.
 pub fn label_count(opening: Opening) -> usize
-    ensures { result ≡ labelCount opening }
+    ensures { result ≡ label_count opening }
 {
     match opening {
         Opening::Discard(_) => 0,
@@ -95,7 +95,7 @@ pub fn label_count(opening: Opening) -> usize
 
 // How many texts a path or a query has.
 pub fn text_count(texts: Texts) -> usize
-    ensures { result ≡ textCount texts }
+    ensures { result ≡ text_count texts }
 {
     match texts {
         Texts::Unset => 0,
@@ -113,7 +113,7 @@ fn number_at(numbers: &[usize], at: usize) -> usize
 // Where the k-th text of Spans stands, counted from 0: the labels come first, then the segments, then the parameters. Past the end it is the
 // empty span at 0.
 pub fn text_span(spans: &[usize], k: usize) -> Span
-    ensures { spanIs result ≡ numberedSpan spans.now k }
+    ensures { span_is result ≡ numbered_span spans.now k }
 {
     if spans.len() <= k {
         return Span {
@@ -132,8 +132,8 @@ pub fn text_span(spans: &[usize], k: usize) -> Span
 // Where n items stand, the first at a position of s, put into the room as numbers. The result is the place after them.
 fn put_spans(room: &mut [usize], at: usize, s: &[u8], first: usize, n: usize) -> usize
     requires row_at { RowAt s.now first n }
-    requires n_in_bounds { at + length (spanNumbers (spans s.now first n)) ≤ length room.old }
-    ensures { Wrote room.old at (spanNumbers (spans s.now first n)) room.new result }
+    requires n_in_bounds { at + length (span_numbers (spans s.now first n)) ≤ length room.old }
+    ensures { Wrote room.old at (span_numbers (spans s.now first n)) room.new result }
 {
     let mut o = at;
     let mut next = first;
@@ -152,8 +152,8 @@ fn put_spans(room: &mut [usize], at: usize, s: &[u8], first: usize, n: usize) ->
 // The same of a path, a query or labels; of none where it is unset.
 fn put_texts(room: &mut [usize], at: usize, s: &[u8], texts: Slot) -> usize
     requires texts_at { TextsAt s.now (slot_of texts) }
-    requires texts_in_bounds { at + length (spanNumbers (elements (textSpans s.now (slot_of texts)))) ≤ length room.old }
-    ensures { Wrote room.old at (spanNumbers (elements (textSpans s.now (slot_of texts)))) room.new result }
+    requires texts_in_bounds { at + length (span_numbers (elements (text_spans s.now (slot_of texts)))) ≤ length room.old }
+    ensures { Wrote room.old at (span_numbers (elements (text_spans s.now (slot_of texts)))) room.new result }
 {
     match texts {
         Slot::Unset => at,
@@ -167,7 +167,7 @@ fn put_texts(room: &mut [usize], at: usize, s: &[u8], texts: Slot) -> usize
 // ---- each component
 
 fn scheme_of(scheme: SchemeAt) -> Scheme
-    ensures { result ≡ schemeLaid (schemeSpan (schemeOf scheme)) }
+    ensures { result ≡ scheme_laid (scheme_span (scheme_of scheme)) }
 {
     match scheme {
         SchemeAt::Unset => Scheme::Unset,
@@ -180,7 +180,7 @@ fn scheme_of(scheme: SchemeAt) -> Scheme
 }
 
 fn authority_of(authority: AuthorityAt) -> Authority
-    ensures { (bs : Bytes) → result ≡ authorityLaid (some (authoritySpans bs (authorityOf authority))) }
+    ensures { (bs : Bytes) → result ≡ authority_laid (some (authority_spans bs (authority_of authority))) }
 {
     let host = authority.host;
     let port = authority.port;
@@ -197,7 +197,7 @@ fn authority_of(authority: AuthorityAt) -> Authority
 }
 
 fn opening_of(opening: OpeningAt) -> Opening
-    ensures { (bs : Bytes) → result ≡ openingLaid (openingSpans bs (openingOf opening)) }
+    ensures { (bs : Bytes) → result ≡ opening_laid (opening_spans bs (opening_of opening)) }
 {
     match opening {
         OpeningAt::Discard(k) => Opening::Discard(k),
@@ -211,8 +211,8 @@ fn opening_of(opening: OpeningAt) -> Opening
 
 // Where the labels of an opening stand; unset where it has none.
 fn labels_of(opening: OpeningAt) -> Slot
-    ensures result_value { (bs : Bytes) → elements (textSpans bs (slot_of result)) ≡ openingLabels (openingSpans bs (openingOf opening)) }
-    ensures texts_stand { (bs : Bytes) → OpeningStands bs (openingOf opening) → TextsStand mostLabels bs (slot_of result) }
+    ensures result_value { (bs : Bytes) → elements (text_spans bs (slot_of result)) ≡ opening_labels (opening_spans bs (opening_of opening)) }
+    ensures texts_stand { (bs : Bytes) → OpeningStands bs (opening_of opening) → TextsStand most_labels bs (slot_of result) }
 {
     match opening {
         OpeningAt::Discard(_) => Slot::Unset,
@@ -228,7 +228,7 @@ fn labels_of(opening: OpeningAt) -> Slot
 }
 
 fn texts_of(slot: Slot) -> Texts
-    ensures { (bs : Bytes) → result ≡ textsLaid (textSpans bs (slot_of slot)) }
+    ensures { (bs : Bytes) → result ≡ texts_laid (text_spans bs (slot_of slot)) }
 {
     match slot {
         Slot::Unset => Texts::Unset,
@@ -237,7 +237,7 @@ fn texts_of(slot: Slot) -> Texts
 }
 
 fn fragment_of(slot: Slot) -> Fragment
-    ensures { result ≡ fragmentLaid (textSpan (slot_of slot)) }
+    ensures { result ≡ fragment_laid (text_span (slot_of slot)) }
 {
     match slot {
         Slot::Unset => Fragment::Unset,
@@ -251,7 +251,7 @@ fn fragment_of(slot: Slot) -> Fragment
 // ---- all of them
 
 fn no_components() -> Components
-    ensures { result ≡ componentsLaid noComponents }
+    ensures { result ≡ components_laid no_components }
 {
     Components {
         opening: Opening::Full(Scheme::Unset, Authority::Unset),
@@ -262,7 +262,7 @@ fn no_components() -> Components
 }
 
 fn components_of(found: Found) -> Components
-    ensures { (bs : Bytes) → result ≡ componentsLaid (components bs (foundOf found)) }
+    ensures { (bs : Bytes) → result ≡ components_laid (components bs (found_of found)) }
 {
     let opening = found.opening;
     let path = found.path;
@@ -278,8 +278,8 @@ fn components_of(found: Found) -> Components
 
 // Where the labels, segments and parameters stand, from the start of the room on.
 fn put_found(room: &mut Spans, s: &[u8], found: Found)
-    requires { FoundStands limits s.now (foundOf found) }
-    ensures { room.new ≡ spansAfter (ok (components s.now (foundOf found))) room.old }
+    requires { FoundStands limits s.now (found_of found) }
+    ensures { room.new ≡ spans_after (ok (components s.now (found_of found))) room.old }
 {
     let opening = found.opening;
     let path = found.path;
@@ -291,8 +291,8 @@ fn put_found(room: &mut Spans, s: &[u8], found: Found)
 
 // What is said, and where its texts stand; or the refusal.
 pub fn read(s: &[u8], spans: &mut Spans) -> Reading
-    ensures value { result ≡ readingLaid (readCall limits s.now) }
-    ensures spans_after { spans.new ≡ spansAfter (readCall limits s.now) spans.old }
+    ensures value { result ≡ reading_laid (read_call limits s.now) }
+    ensures spans_after { spans.new ≡ spans_after (read_call limits s.now) spans.old }
 {
     match reader::read(s) {
         Answer::Is(found) => {

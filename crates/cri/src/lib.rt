@@ -1,11 +1,11 @@
 // The library's calls. Each takes any bytes, and answers for all of them what its `ensures` says; the definitions named there are in
 // crates/rules/specs, how components are laid out in crates/components/specs, what a part of a slice is in crates/segment_view/specs.
 ghost use Rattle.std.specs.Prelude.{◌≡◌, length};
-ghost use Rattle.rules.specs.Calls.{outcome, after, readCall, writeCall, resolveCall, textCall, optionsCall};
+ghost use Rattle.rules.specs.Calls.{outcome, after, read_call, write_call, resolve_call, text_call, options_call};
 ghost use Rattle.rules.specs.Model.{limits};
-ghost use Rattle.components.specs.Content.{componentsOf};
-ghost use Rattle.components.specs.Layout.{readingLaid, spansAfter};
-ghost use Rattle.outcomes.specs.Answers.{outcomeIs};
+ghost use Rattle.components.specs.Content.{components_of};
+ghost use Rattle.components.specs.Layout.{reading_laid, spans_after};
+ghost use Rattle.outcomes.specs.Answers.{outcome_is};
 
 pub use cbor::Span;
 pub use components::{Authority, Components, Fragment, Opening, Reading, Scheme, Spans, Texts};
@@ -35,8 +35,8 @@ pub use segment_view::{segment, segment_verdict};
 // where they stand in the link. Those of labels, segments and parameters go into `spans`, one after the other, start and length of each; past
 // them, and after a refusal, `spans` is as it was.
 pub fn read(link: &[u8], spans: &mut Spans) -> Reading
-    ensures value { result ≡ readingLaid (readCall limits link.now) }
-    ensures spans_after { spans.new ≡ spansAfter (readCall limits link.now) spans.old }
+    ensures value { result ≡ reading_laid (read_call limits link.now) }
+    ensures spans_after { spans.new ≡ spans_after (read_call limits link.now) spans.old }
 {
     components::read(link, spans)
 }
@@ -45,8 +45,8 @@ pub fn read(link: &[u8], spans: &mut Spans) -> Reading
 // tells, into the room: the length written. Or it refuses, and the room is as it was: 4 where a count is over its size or a span lies
 // outside `lent`; the number from 1 to 7 that `read` has for the encoding; 10 where the room is shorter than the encoding.
 pub fn write(components: Components, spans: &Spans, lent: &[u8], room: &mut [u8]) -> Outcome
-    ensures result_value { outcomeIs result ≡ outcome (writeCall limits (componentsOf spans.now components) lent.now) (length room.old) }
-    ensures room_after { room.new ≡ after (writeCall limits (componentsOf spans.now components) lent.now) room.old }
+    ensures result_value { outcome_is result ≡ outcome (write_call limits (components_of spans.now components) lent.now) (length room.old) }
+    ensures room_after { room.new ≡ after (write_call limits (components_of spans.now components) lent.now) room.old }
 {
     writer::write(components, spans, lent, room)
 }
@@ -55,8 +55,8 @@ pub fn write(components: Components, spans: &Spans, lent: &[u8], room: &mut [u8]
 // and the room is as it was: 8 where the base is refused or not absolute; the number from 1 to 7 that `read` has for the reference;
 // 9 where the result has more segments or bytes than a link may have; 10 where the room is shorter than the result.
 pub fn resolve(base: &[u8], reference: &[u8], room: &mut [u8]) -> Outcome
-    ensures result_value { outcomeIs result ≡ outcome (resolveCall limits base.now reference.now) (length room.old) }
-    ensures room_after { room.new ≡ after (resolveCall limits base.now reference.now) room.old }
+    ensures result_value { outcome_is result ≡ outcome (resolve_call limits base.now reference.now) (length room.old) }
+    ensures room_after { room.new ≡ after (resolve_call limits base.now reference.now) room.old }
 {
     resolver::resolve(base, reference, room)
 }
@@ -65,8 +65,8 @@ pub fn resolve(base: &[u8], reference: &[u8], room: &mut [u8]) -> Outcome
 // was: the number from 1 to 7 that `read` has for the link; 8 where the link is not absolute; 10 where the room is shorter than the text.
 // For a link of n bytes a room of 3n + 13 is long enough.
 pub fn uri_text(link: &[u8], room: &mut [u8]) -> Outcome
-    ensures result_value { outcomeIs result ≡ outcome (textCall limits link.now) (length room.old) }
-    ensures room_after { room.new ≡ after (textCall limits link.now) room.old }
+    ensures result_value { outcome_is result ≡ outcome (text_call limits link.now) (length room.old) }
+    ensures room_after { room.new ≡ after (text_call limits link.now) room.old }
 {
     uri::uri_text(link, room)
 }
@@ -76,8 +76,8 @@ pub fn uri_text(link: &[u8], room: &mut [u8]) -> Outcome
 // 1 to 7 that `read` has for the link; 8 where the link is not absolute; 11 where its scheme is a text or a fragment is set; 10 where the
 // room is shorter than the options. For a link of n bytes a room of 2n + 16 is long enough.
 pub fn options(link: &[u8], address: &[u8], port: u16, room: &mut [u8]) -> Outcome
-    ensures result_value { outcomeIs result ≡ outcome (optionsCall limits link.now address.now port) (length room.old) }
-    ensures room_after { room.new ≡ after (optionsCall limits link.now address.now port) room.old }
+    ensures result_value { outcome_is result ≡ outcome (options_call limits link.now address.now port) (length room.old) }
+    ensures room_after { room.new ≡ after (options_call limits link.now address.now port) room.old }
 {
     coap_options::options(link, address, port, room)
 }

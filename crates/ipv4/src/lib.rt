@@ -2,7 +2,7 @@
 ghost use Rattle.std.specs.Prelude.{◌+◌, ◌≤◌, ◌≡◌, length};
 ghost use Rattle.rules.specs.Bytes.{part, dot};
 ghost use Rattle.rules.specs.Numeral.{decimal};
-ghost use Rattle.rules.specs.Address.{ipv4Text};
+ghost use Rattle.rules.specs.Address.{ipv4_text};
 ghost use Rattle.put.specs.Joined.{further};
 ghost use Rattle.put.specs.Wrote.{Wrote};
 
@@ -30,8 +30,8 @@ fn put_further_octets(room: &mut [u8], at: usize, src: &[u8], from: usize, n: us
 // The IPv4 address in the 4 bytes of src from a position on, in dotted decimal.
 pub fn put_ipv4(room: &mut [u8], at: usize, src: &[u8], from: usize) -> usize
     requires from_in_bounds { from + 4 ≤ length src.now }
-    requires from_in_bounds_2 { at + length (ipv4Text (part src.now from 4)) ≤ length room.old }
-    ensures { Wrote room.old at (ipv4Text (part src.now from 4)) room.new result }
+    requires from_in_bounds_2 { at + length (ipv4_text (part src.now from 4)) ≤ length room.old }
+    ensures { Wrote room.old at (ipv4_text (part src.now from 4)) room.new result }
 {
     let b = src[from] as u16;
     let p = put_decimal(room, at, b);
@@ -48,7 +48,7 @@ fn octet_length(b: u8) -> usize
 // How long the text of an IPv4 address is.
 pub fn ipv4_length(src: &[u8], from: usize) -> usize
     requires { from + 4 ≤ length src.now }
-    ensures { result ≡ length (ipv4Text (part src.now from 4)) }
+    ensures { result ≡ length (ipv4_text (part src.now from 4)) }
 {
     octet_length(src[from])
         + octet_length(src[from + 1])

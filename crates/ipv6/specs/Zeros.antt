@@ -11,10 +11,10 @@ abbrev pub ahead : ℕ → ℕ → ℕ
 ahead here g = cond (eqb g 0) (suc here) 0
 
 -- with the group g more, which is group k, before the others
-unfoldable pub withGroup : ℕ → ℕ → Zeros → Zeros
-withGroup k g z = cond (leb z.size (ahead z.here g)) (zeros (ahead z.here g) k (ahead z.here g)) (zeros (ahead z.here g) z.at z.size)
+unfoldable pub with_group : ℕ → ℕ → Zeros → Zeros
+with_group k g z = cond (leb z.size (ahead z.here g)) (zeros (ahead z.here g) k (ahead z.here g)) (zeros (ahead z.here g) z.at z.size)
 
 -- those of a list of groups, of which the first is group k
-unfoldable pub zerosFrom : ℕ → List ℕ → Zeros
-zerosFrom k [] = zeros 0 k 0
-zerosFrom k (g ∷ gs) = withGroup k g (zerosFrom (suc k) gs)
+unfoldable pub zeros_from : ℕ → List ℕ → Zeros
+zeros_from k [] = zeros 0 k 0
+zeros_from k (g ∷ gs) = with_group k g (zeros_from (suc k) gs)

@@ -1,12 +1,12 @@
 // An IPv6 address in text, by RFC 5952, written into a lent room; and how long it is.
 ghost use Rattle.std.specs.Prelude.{◌+◌, ◌≤◌, ◌<◌, ◌≡◌, length, get_or};
 ghost use Rattle.rules.specs.Bytes.{part, colon};
-ghost use Rattle.rules.specs.Numeral.{digitByte, numeral};
-ghost use Rattle.rules.specs.Address.{groups, hexGroups, hexText, mapped, ipv6Text};
+ghost use Rattle.rules.specs.Numeral.{digit_byte, numeral};
+ghost use Rattle.rules.specs.Address.{groups, hex_groups, hex_text, mapped, ipv6_text};
 ghost use Rattle.put.specs.Joined.{further};
 ghost use Rattle.put.specs.Tables.{Digits};
 ghost use Rattle.put.specs.Wrote.{Wrote};
-ghost use Rattle.ipv6.specs.Zeros.{ahead, withGroup, zerosFrom};
+ghost use Rattle.ipv6.specs.Zeros.{ahead, with_group, zeros_from};
 
 use ipv4::{ipv4_length, put_ipv4};
 use numeral::{hex_length, lower_hex_digits, put_hex};
@@ -42,7 +42,7 @@ fn zeros_ahead(here: usize, g: u16) -> usize
 // With one group more, which is group k, before the others.
 fn with_group(k: usize, g: u16, z: Zeros) -> Zeros
     requires { z.here < 8 }
-    ensures { result ≡ withGroup k g z }
+    ensures { result ≡ with_group k g z }
 {
     let here = zeros_ahead(z.here, g);
     if z.size <= here {
@@ -62,7 +62,7 @@ fn with_group(k: usize, g: u16, z: Zeros) -> Zeros
 // The longest run of zero groups, the first of the longest.
 fn longest_run(src: &[u8], from: usize) -> Zeros
     requires { from + 16 ≤ length src.now }
-    ensures { result ≡ zerosFrom 0 (groups (part src.now from 16)) }
+    ensures { result ≡ zeros_from 0 (groups (part src.now from 16)) }
 {
     let mut z = Zeros {
         here: 0,
@@ -80,7 +80,7 @@ fn longest_run(src: &[u8], from: usize) -> Zeros
 // Whether an address is IPv4-mapped: its sixth group is ffff, and its longest run of zeros is that of the five before it.
 fn is_mapped(src: &[u8], from: usize, run: Zeros) -> bool
     requires from_in_bounds { from + 16 ≤ length src.now }
-    requires run_value { run ≡ zerosFrom 0 (groups (part src.now from 16)) }
+    requires run_value { run ≡ zeros_from 0 (groups (part src.now from 16)) }
     ensures { result ≡ mapped (part src.now from 16) }
 {
     if group_at(src, from, 5) != 0xffff {
@@ -102,7 +102,7 @@ fn put_further_groups(
     k: usize,
     n: usize,
 ) -> usize
-    requires digits { Digits digitByte digits.now }
+    requires digits { Digits digit_byte digits.now }
     requires from_in_bounds { (from + 16 ≤ length src.now) × (k + n ≤ 8) }
     requires n_in_bounds { at + length (further colon (numeral 16 4) (part (groups (part src.now from 16)) k n)) ≤ length room.old }
     ensures { Wrote room.old at (further colon (numeral 16 4) (part (groups (part src.now from 16)) k n)) room.new result }
@@ -129,10 +129,10 @@ fn put_groups(
     k: usize,
     n: usize,
 ) -> usize
-    requires digits { Digits digitByte digits.now }
+    requires digits { Digits digit_byte digits.now }
     requires from_in_bounds { (from + 16 ≤ length src.now) × (k + n ≤ 8) }
-    requires n_in_bounds { at + length (hexGroups (part (groups (part src.now from 16)) k n)) ≤ length room.old }
-    ensures { Wrote room.old at (hexGroups (part (groups (part src.now from 16)) k n)) room.new result }
+    requires n_in_bounds { at + length (hex_groups (part (groups (part src.now from 16)) k n)) ≤ length room.old }
+    ensures { Wrote room.old at (hex_groups (part (groups (part src.now from 16)) k n)) room.new result }
 {
     if n == 0 {
         return at;
@@ -145,9 +145,9 @@ fn put_groups(
 // The IPv6 address in the 16 bytes of src from a position on in hex groups, its longest run of zeros given.
 fn put_hex_text(room: &mut [u8], at: usize, src: &[u8], from: usize, run: Zeros) -> usize
     requires from_in_bounds { from + 16 ≤ length src.now }
-    requires run_value { run ≡ zerosFrom 0 (groups (part src.now from 16)) }
-    requires from_in_bounds_2 { at + length (hexText (part src.now from 16)) ≤ length room.old }
-    ensures { Wrote room.old at (hexText (part src.now from 16)) room.new result }
+    requires run_value { run ≡ zeros_from 0 (groups (part src.now from 16)) }
+    requires from_in_bounds_2 { at + length (hex_text (part src.now from 16)) ≤ length room.old }
+    ensures { Wrote room.old at (hex_text (part src.now from 16)) room.new result }
 {
     let digits = lower_hex_digits();
     if run.size < 2 {
@@ -162,8 +162,8 @@ fn put_hex_text(room: &mut [u8], at: usize, src: &[u8], from: usize, run: Zeros)
 // The IPv6 address in the 16 bytes of src from a position on, by RFC 5952: in the mixed form where it is IPv4-mapped, else in hex groups.
 pub fn put_ipv6(room: &mut [u8], at: usize, src: &[u8], from: usize) -> usize
     requires from_in_bounds { from + 16 ≤ length src.now }
-    requires from_in_bounds_2 { at + length (ipv6Text (part src.now from 16)) ≤ length room.old }
-    ensures { Wrote room.old at (ipv6Text (part src.now from 16)) room.new result }
+    requires from_in_bounds_2 { at + length (ipv6_text (part src.now from 16)) ≤ length room.old }
+    ensures { Wrote room.old at (ipv6_text (part src.now from 16)) room.new result }
 {
     let run = longest_run(src, from);
     if is_mapped(src, from, run) {
@@ -191,7 +191,7 @@ fn further_length(src: &[u8], from: usize, k: usize, n: usize) -> usize
 // How long n groups from group k on are in hex, with ":" between any two.
 fn groups_length(src: &[u8], from: usize, k: usize, n: usize) -> usize
     requires { (from + 16 ≤ length src.now) × (k + n ≤ 8) }
-    ensures { result ≡ length (hexGroups (part (groups (part src.now from 16)) k n)) }
+    ensures { result ≡ length (hex_groups (part (groups (part src.now from 16)) k n)) }
 {
     if n == 0 {
         return 0;
@@ -202,8 +202,8 @@ fn groups_length(src: &[u8], from: usize, k: usize, n: usize) -> usize
 // How long an IPv6 address is in hex groups, its longest run of zeros given.
 fn hex_text_length(src: &[u8], from: usize, run: Zeros) -> usize
     requires from_in_bounds { from + 16 ≤ length src.now }
-    requires run_value { run ≡ zerosFrom 0 (groups (part src.now from 16)) }
-    ensures { result ≡ length (hexText (part src.now from 16)) }
+    requires run_value { run ≡ zeros_from 0 (groups (part src.now from 16)) }
+    ensures { result ≡ length (hex_text (part src.now from 16)) }
 {
     if run.size < 2 {
         return groups_length(src, from, 0, 8);
@@ -215,7 +215,7 @@ fn hex_text_length(src: &[u8], from: usize, run: Zeros) -> usize
 // How long the text of an IPv6 address is.
 pub fn ipv6_length(src: &[u8], from: usize) -> usize
     requires { from + 16 ≤ length src.now }
-    ensures { result ≡ length (ipv6Text (part src.now from 16)) }
+    ensures { result ≡ length (ipv6_text (part src.now from 16)) }
 {
     let run = longest_run(src, from);
     if is_mapped(src, from, run) {

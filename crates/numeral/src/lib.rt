@@ -1,23 +1,23 @@
 // Numerals without leading zeros written into a lent room, decimal and in lower-case hex, and how long they are.
 ghost use Rattle.std.specs.Prelude.{◌+◌, ◌≤◌, ◌<◌, ◌≡◌, length};
-ghost use Rattle.rules.specs.Numeral.{digitByte, numeral, decimal};
+ghost use Rattle.rules.specs.Numeral.{digit_byte, numeral, decimal};
 ghost use Rattle.put.specs.Tables.{Digits};
 ghost use Rattle.put.specs.Wrote.{Wrote};
-ghost use Rattle.numeral.specs.Scales.{digitAt};
+ghost use Rattle.numeral.specs.Scales.{digit_at};
 
 use put::put_byte;
 
 // The lower-case hex digits, for put_hex.
 pub fn lower_hex_digits() -> [u8; 16]
-    ensures { Digits digitByte result }
+    ensures { Digits digit_byte result }
 {
     *b"0123456789abcdef"
 }
 
 // The decimal digit of n at a scale, where n reaches it.
 fn put_decimal_digit(room: &mut [u8], at: usize, n: u16, scale: u16) -> usize
-    requires { (0 < scale) × (at + length (digitAt 10 scale n) ≤ length room.old) }
-    ensures { Wrote room.old at (digitAt 10 scale n) room.new result }
+    requires { (0 < scale) × (at + length (digit_at 10 scale n) ≤ length room.old) }
+    ensures { Wrote room.old at (digit_at 10 scale n) room.new result }
 {
     if n < scale {
         return at;
@@ -27,9 +27,9 @@ fn put_decimal_digit(room: &mut [u8], at: usize, n: u16, scale: u16) -> usize
 
 // The hex digit of n at a scale, where n reaches it.
 fn put_hex_digit(room: &mut [u8], at: usize, digits: &[u8; 16], n: u16, scale: u16) -> usize
-    requires digits { Digits digitByte digits.now }
-    requires scale_nonzero { (0 < scale) × (at + length (digitAt 16 scale n) ≤ length room.old) }
-    ensures { Wrote room.old at (digitAt 16 scale n) room.new result }
+    requires digits { Digits digit_byte digits.now }
+    requires scale_nonzero { (0 < scale) × (at + length (digit_at 16 scale n) ≤ length room.old) }
+    ensures { Wrote room.old at (digit_at 16 scale n) room.new result }
 {
     if n < scale {
         return at;
@@ -59,7 +59,7 @@ pub fn decimal_length(n: u16) -> usize
 
 // How many digits the hex numeral of n has at a scale: one where n reaches it.
 fn hex_digit_length(n: u16, scale: u16) -> usize
-    ensures { result ≡ length (digitAt 16 scale n) }
+    ensures { result ≡ length (digit_at 16 scale n) }
 {
     if n < scale { 0 } else { 1 }
 }
@@ -85,7 +85,7 @@ pub fn put_decimal(room: &mut [u8], at: usize, n: u16) -> usize
 
 // n in hex, with the digits lent.
 pub fn put_hex(room: &mut [u8], at: usize, digits: &[u8; 16], n: u16) -> usize
-    requires digits { Digits digitByte digits.now }
+    requires digits { Digits digit_byte digits.now }
     requires n_in_bounds { at + length (numeral 16 4 n) ≤ length room.old }
     ensures { Wrote room.old at (numeral 16 4 n) room.new result }
 {

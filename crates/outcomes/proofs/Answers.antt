@@ -7,7 +7,7 @@ use Rattle.rules.specs.Bytes.{Bytes}
 use Rattle.rules.specs.Result.{Res, refused, ok, ROOM}
 use Rattle.rules.specs.Calls.{outcome, after}
 use Rattle.put.specs.Wrote.{Wrote}
-use Rattle.put.proofs.Wrote.{wrote-all}
+use Rattle.put.proofs.Wrote.{wrote_all}
 
 -- an answer, and a room after the call, are those of a call whose output is u
 pub record Right (u : Res Bytes) (room : Bytes) (answer : Res ℕ) (left : Bytes) : Type 0 where
@@ -15,26 +15,26 @@ pub record Right (u : Res Bytes) (room : Bytes) (answer : Res ℕ) (left : Bytes
   pub holds : left ≡ after u room
 
 -- nothing is written, since the input is refused
-pub right-refused : {u : Res Bytes} {room : Bytes} (n k : ℕ) → u ≡ refused n k → Right u room (refused n k) room
+pub right_refused : {u : Res Bytes} {room : Bytes} (n k : ℕ) → u ≡ refused n k → Right u room (refused n k) room
 unfolding outcome after
-right-refused n k e = record { answered = rw e; holds = rw e }
+right_refused n k e = record { answered = rw e; holds = rw e }
 
 -- nothing is written, since the room is shorter
-pub right-full : {u : Res Bytes} {room : Bytes} (w : Bytes) → u ≡ ok w → length room < length w → Right u room (refused ROOM 0) room
+pub right_full : {u : Res Bytes} {room : Bytes} (w : Bytes) → u ≡ ok w → length room < length w → Right u room (refused ROOM 0) room
 unfolding outcome after
-right-full {u} {room} w e h = record { answered = rw (e, lt-ltb (length room) (length w) h); holds = rw (e, lt-ltb (length room) (length w) h) }
+right_full {u} {room} w e h = record { answered = rw (e, lt-ltb (length room) (length w) h); holds = rw (e, lt-ltb (length room) (length w) h) }
 
 -- all is written
-pub right-done : {u : Res Bytes} {room left : Bytes} {n : ℕ} (w : Bytes) → u ≡ ok w → length w ≤ length room → Wrote room 0 w left n
+pub right_done : {u : Res Bytes} {room left : Bytes} {n : ℕ} (w : Bytes) → u ≡ ok w → length w ≤ length room → Wrote room 0 w left n
     → Right u room (ok n) left
 unfolding outcome after
-right-done {u} {room} {left} {n} w e h p =
+right_done {u} {room} {left} {n} w e h p =
     record {
-      answered = ap ok (wrote-all p h).0 ∙ rw (e, le-ltb (length room) (length w) h);
-      holds = (wrote-all p h).1 ∙ rw (e, le-ltb (length room) (length w) h);
+      answered = ap ok (wrote_all p h).0 ∙ rw (e, le-ltb (length room) (length w) h);
+      holds = (wrote_all p h).1 ∙ rw (e, le-ltb (length room) (length w) h);
     }
 
 -- what a call answers and leaves for one output, it does for an equal one
-pub right-as : {u v : Res Bytes} {left : Bytes} {answer : Res ℕ} (room : Bytes) → u ≡ v → (answer ≡ outcome u (length room)) × (left ≡ after u room)
+pub right_as : {u v : Res Bytes} {left : Bytes} {answer : Res ℕ} (room : Bytes) → u ≡ v → (answer ≡ outcome u (length room)) × (left ≡ after u room)
     → (answer ≡ outcome v (length room)) × (left ≡ after v room)
-right-as room e p = (p.0 ∙ ap (λ (u : Res Bytes). outcome u (length room)) e, p.1 ∙ ap (λ (u : Res Bytes). after u room) e)
+right_as room e p = (p.0 ∙ ap (λ (u : Res Bytes). outcome u (length room)) e, p.1 ∙ ap (λ (u : Res Bytes). after u room) e)

@@ -2,7 +2,7 @@
 ghost use Rattle.std.specs.Prelude.{◌≡◌, length};
 ghost use Rattle.rules.specs.Result.{refused, ok};
 ghost use Rattle.rules.specs.Calls.{length_of, outcome, after};
-ghost use Rattle.outcomes.specs.Answers.{outcomeIs};
+ghost use Rattle.outcomes.specs.Answers.{outcome_is};
 
 use numbers::ROOM;
 use put::put_bytes;
@@ -17,14 +17,14 @@ pub enum Outcome {
 
 // The answer that leaves the room as it was.
 pub fn refused(number: u8, place: usize) -> Outcome
-    ensures { outcomeIs result ≡ refused number place }
+    ensures { outcome_is result ≡ refused number place }
 {
     Outcome::Refused(Refusal { number, place })
 }
 
 // How many bytes were written: none after a refusal.
 pub fn written(outcome: Outcome) -> usize
-    ensures { result ≡ length_of (outcomeIs outcome) }
+    ensures { result ≡ length_of (outcome_is outcome) }
 {
     match outcome {
         Outcome::Written(n) => n,
@@ -34,7 +34,7 @@ pub fn written(outcome: Outcome) -> usize
 
 // Bytes that are ready, copied into the room; 10 where it is shorter.
 pub fn copied(s: &[u8], room: &mut [u8]) -> Outcome
-    ensures result_value { outcomeIs result ≡ outcome (ok s.now) (length room.old) }
+    ensures result_value { outcome_is result ≡ outcome (ok s.now) (length room.old) }
     ensures room_after { room.new ≡ after (ok s.now) room.old }
 {
     if room.len() < s.len() {

@@ -15,13 +15,13 @@ module _ (f f' : List Bytes → Bytes) (g : Bytes → Bytes) (each : (t : Bytes)
   turn : f (contents bs next left) ≡ g (part bs start n) ++ f' (contents bs (start + n) (left - 1))
   turn = ap f w.content ∙ each (part bs start n) (contents bs (start + n) (left - 1))
 
-  pub turn-next : {room room₀ w₀ : Bytes} {o at : ℕ} → Left room o (f (contents bs next left)) room₀ at w₀
+  pub turn_next : {room room₀ w₀ : Bytes} {o at : ℕ} → Left room o (f (contents bs next left)) room₀ at w₀
       → Next room o (g (part bs start n)) (f' (contents bs (start + n) (left - 1))) room₀ at w₀
-  turn-next l = record { left = rw turn at l }
+  turn_next l = record { left = rw turn at l }
 
-  pub turn-count : {p m : ℕ} → Count p (f (contents bs next left)) m
+  pub turn_count : {p m : ℕ} → Count p (f (contents bs next left)) m
       → CountNext p (g (part bs start n)) (f' (contents bs (start + n) (left - 1))) m
-  turn-count c = record { sum = omega (arith, ap length turn, length-append (g (part bs start n)) (f' (contents bs (start + n) (left - 1))), c.sum) }
+  turn_count c = record { sum = omega (arith, ap length turn, length-append (g (part bs start n)) (f' (contents bs (start + n) (left - 1))), c.sum) }
 
 -- nothing is left of none
 pub none_of : (f : List Bytes → Bytes) → f [] ≡ [] → (bs : Bytes) (next left : ℕ) → left ≤ 0 → f (contents bs next left) ≡ []

@@ -1,6 +1,6 @@
 // Writing pieces into a lent room. Each piece says by `Wrote` what it leaves, and answers the place after it.
 ghost use Rattle.std.specs.Prelude.{◌+◌, ◌≤◌, ◌<◌, [], ◌∷◌, length};
-ghost use Rattle.rules.specs.Bytes.{part, bigEndian};
+ghost use Rattle.rules.specs.Bytes.{part, big_endian};
 ghost use Rattle.put.specs.Wrote.{Wrote};
 
 // One byte.
@@ -92,7 +92,7 @@ pub fn put_bytes(room: &mut [u8], at: usize, text: &[u8]) -> usize
 // The lowest bytes of v, at most 8, the highest first.
 pub fn put_big_endian(room: &mut [u8], at: usize, width: usize, v: u64) -> usize
     requires { (width ≤ 8) × (at + width ≤ length room.old) }
-    ensures { Wrote room.old at (bigEndian width v []) room.new result }
+    ensures { Wrote room.old at (big_endian width v []) room.new result }
 {
     let mut left = width;
     let mut o = at;

@@ -12,12 +12,12 @@ use Rattle.rules.specs.Head.{Kind, Number, Negative, ByteString, Text, Array, Tr
 use Rattle.cbor.specs.declared.Item.{Item}
 use Rattle.cbor.specs.declared.Item.TheVariants as ItemV
 use Rattle.cbor.specs.contracts.Item.{the_type}
-use Rattle.cbor.specs.Heads.{itemIs}
-use Rattle.cbor.proofs.Heads.{answered, head-accepted, head_never}
+use Rattle.cbor.specs.Heads.{item_is}
+use Rattle.cbor.proofs.Heads.{answered, head_accepted, head_never}
 
 -- this was answered at a position where the kinds of p are allowed
 pub record Read (p : Kind → Bool) (bs : Bytes) (at : ℕ) (r : Item) : Type 0 where
-  pub answer : itemIs at r ≡ read_head p bs at
+  pub answer : item_is at r ≡ read_head p bs at
 
 -- a kind is not in a `match`'s last arm, or it is not allowed
 abbrev left_out : List ℕ → ℕ → Bool → Bool
@@ -41,24 +41,24 @@ either true false h f g = g refl
 either true true h f g = absurd h
 
 -- an item of no kind that is allowed
-none_other : {A : Type 0} (p : Kind → Bool) (bs : Bytes) (at : ℕ) (i : Item) (tags : List ℕ) → itemIs at i ≡ read_head p bs at → OneOf tags (tag_of the_type i) → Others p tags → A
-none_other p bs at (ItemV.Number v n) tags h k o = either (has_key tags 0) (p Number) o.0 (λ m. absurd (miss tags 0 m k)) (λ f. head_never (head-accepted h) f)
-none_other p bs at (ItemV.Negative v n) tags h k o = either (has_key tags 1) (p Negative) o.1 (λ m. absurd (miss tags 1 m k)) (λ f. head_never (head-accepted h) f)
-none_other p bs at (ItemV.ByteString v n) tags h k o = either (has_key tags 2) (p ByteString) o.2 (λ m. absurd (miss tags 2 m k)) (λ f. head_never (head-accepted h) f)
-none_other p bs at (ItemV.Text v n) tags h k o = either (has_key tags 3) (p Text) o.3 (λ m. absurd (miss tags 3 m k)) (λ f. head_never (head-accepted h) f)
-none_other p bs at (ItemV.Array v n) tags h k o = either (has_key tags 4) (p Array) o.4 (λ m. absurd (miss tags 4 m k)) (λ f. head_never (head-accepted h) f)
-none_other p bs at (ItemV.True n) tags h k o = either (has_key tags 5) (p True) o.5 (λ m. absurd (miss tags 5 m k)) (λ f. head_never (head-accepted h) f)
-none_other p bs at (ItemV.Null n) tags h k o = either (has_key tags 6) (p Null) o.6 (λ m. absurd (miss tags 6 m k)) (λ f. head_never (head-accepted h) f)
+none_other : {A : Type 0} (p : Kind → Bool) (bs : Bytes) (at : ℕ) (i : Item) (tags : List ℕ) → item_is at i ≡ read_head p bs at → OneOf tags (tag_of the_type i) → Others p tags → A
+none_other p bs at (ItemV.Number v n) tags h k o = either (has_key tags 0) (p Number) o.0 (λ m. absurd (miss tags 0 m k)) (λ f. head_never (head_accepted h) f)
+none_other p bs at (ItemV.Negative v n) tags h k o = either (has_key tags 1) (p Negative) o.1 (λ m. absurd (miss tags 1 m k)) (λ f. head_never (head_accepted h) f)
+none_other p bs at (ItemV.ByteString v n) tags h k o = either (has_key tags 2) (p ByteString) o.2 (λ m. absurd (miss tags 2 m k)) (λ f. head_never (head_accepted h) f)
+none_other p bs at (ItemV.Text v n) tags h k o = either (has_key tags 3) (p Text) o.3 (λ m. absurd (miss tags 3 m k)) (λ f. head_never (head_accepted h) f)
+none_other p bs at (ItemV.Array v n) tags h k o = either (has_key tags 4) (p Array) o.4 (λ m. absurd (miss tags 4 m k)) (λ f. head_never (head_accepted h) f)
+none_other p bs at (ItemV.True n) tags h k o = either (has_key tags 5) (p True) o.5 (λ m. absurd (miss tags 5 m k)) (λ f. head_never (head_accepted h) f)
+none_other p bs at (ItemV.Null n) tags h k o = either (has_key tags 6) (p Null) o.6 (λ m. absurd (miss tags 6 m k)) (λ f. head_never (head_accepted h) f)
 none_other p bs at (ItemV.Refused x) tags h k o = absurd (miss tags 7 o.7 k)
 
 module _ {p : Kind → Bool} {bs : Bytes} {at : ℕ} {r : Item} where
   -- the kinds that the code allows are those
-  pub allowed : {q : Kind → Bool} → q ≡ p → itemIs at r ≡ read_head q bs at → Read p bs at r
+  pub allowed : {q : Kind → Bool} → q ≡ p → item_is at r ≡ read_head q bs at → Read p bs at r
   allowed may e = record { answer = e ∙ ap (λ q. read_head q bs at) may }
 
   -- it was this
-  pub item-is : {i : Item} → Read p bs at r → r ≡ i → itemIs at i ≡ read_head p bs at
-  item-is h g = answered (itemIs at) h.answer g
+  pub item_is_lem : {i : Item} → Read p bs at r → r ≡ i → item_is at i ≡ read_head p bs at
+  item_is_lem h g = answered (item_is at) h.answer g
 
   -- it was nothing else
   pub no_other : {A : Type 0} → Read p bs at r → (tags : List ℕ) → OneOf tags (tag_of the_type r) → Others p tags → A

@@ -2,12 +2,12 @@
 ghost use Rattle.std.specs.Prelude.{◌≡◌, ◌&&◌, ◌||◌, ℕ, ◌+◌, ◌-◌, ◌≤◌, ◌<◌, length, eqb};
 ghost use Rattle.rules.specs.Bytes.{Bytes};
 ghost use Rattle.rules.specs.Model.{limits};
-ghost use Rattle.rules.specs.Rules.{addressSize};
+ghost use Rattle.rules.specs.Rules.{address_size};
 ghost use Rattle.rules.specs.Head.{Number, Negative, ByteString, Text, Array, True, Null, is, read_head};
 ghost use Rattle.rules.specs.Reader as R;
 ghost use Rattle.cbor.specs.Heads.{allows, accepted};
-ghost use Rattle.texts.specs.Answers.{sortIs, stepIs};
-ghost use Rattle.reader.specs.Answers.{headIs, rowEndIs, slotIs, namesIs, schemeOf, authorityIs, readHost, openingOf, openedIs, firstIs, foundOf, answerIs, readEnd, readRest, readItems};
+ghost use Rattle.texts.specs.Answers.{sort_is, step_is};
+ghost use Rattle.reader.specs.Answers.{head_is, row_end_is, slot_is, names_is, scheme_of, authority_is, read_host, opening_of, opened_is, first_is, found_of, answer_is, read_end, read_rest, read_items};
 
 use cbor::{Item, Kinds};
 use numbers::{
@@ -198,7 +198,7 @@ const MAY_OPEN: Kinds = Kinds {
 // ---- texts
 
 fn array_head(s: &[u8], at: usize) -> Head
-    ensures { headIs result ≡ read_head (is Array) s.now at }
+    ensures { head_is result ≡ read_head (is Array) s.now at }
 {
     match cbor::item_at(s, at, ONLY_ARRAY) {
         Item::Array { count: n, next } => Head::Is { value: n, next },
@@ -214,7 +214,7 @@ fn array_head(s: &[u8], at: usize) -> Head
 }
 
 fn text_at(s: &[u8], at: usize, sort: Sort) -> Step
-    ensures { stepIs at result ≡ R.readText (sortIs sort) s.now at }
+    ensures { step_is at result ≡ R.read_text (sort_is sort) s.now at }
 {
     match cbor::item_at(s, at, ONLY_TEXT) {
         Item::Text { length: n, next } => texts::text_body(s, next, n, sort),
@@ -224,7 +224,7 @@ fn text_at(s: &[u8], at: usize, sort: Sort) -> Step
 }
 
 fn row_at(s: &[u8], at: usize, count: usize, sort: Sort) -> RowEnd
-    ensures { rowEndIs result ≡ R.readRow (sortIs sort) s.now at count }
+    ensures { row_end_is result ≡ R.read_row (sort_is sort) s.now at count }
 {
     let mut here = at;
     let mut left = count;
@@ -247,7 +247,7 @@ fn row_at(s: &[u8], at: usize, count: usize, sort: Sort) -> RowEnd
 
 // Null, after which `left` items are left: never the last.
 fn null_body(at: usize, left: usize, next: usize) -> SlotAt
-    ensures { slotIs result ≡ R.nullBody at left (record { kind = Null; value = 22; next = next }) }
+    ensures { slot_is result ≡ R.null_body at left (record { kind = Null; value = 22; next = next }) }
 {
     if left == 0 {
         return SlotAt::Refused(Refusal {
@@ -263,7 +263,7 @@ fn null_body(at: usize, left: usize, next: usize) -> SlotAt
 
 // An array of low to high texts, whose head has been read.
 fn array_body(s: &[u8], at: usize, sort: Sort, low: u64, high: u64, n: u64, next: usize) -> SlotAt
-    ensures { slotIs result ≡ R.arrayBody (sortIs sort) low high s.now at (record { kind = Array; value = n; next = next }) }
+    ensures { slot_is result ≡ R.array_body (sort_is sort) low high s.now at (record { kind = Array; value = n; next = next }) }
 {
     if n < low {
         return SlotAt::Refused(Refusal {
@@ -289,7 +289,7 @@ fn array_body(s: &[u8], at: usize, sort: Sort, low: u64, high: u64, n: u64, next
 
 // An array of low to high texts, or null, or nothing where no item is left.
 fn array_at(s: &[u8], at: usize, left: usize, sort: Sort, low: u64, high: u64) -> SlotAt
-    ensures { slotIs result ≡ R.readArray (sortIs sort) low high s.now at left }
+    ensures { slot_is result ≡ R.read_array (sort_is sort) low high s.now at left }
 {
     if left == 0 {
         return SlotAt::Is {
@@ -313,7 +313,7 @@ fn array_at(s: &[u8], at: usize, left: usize, sort: Sort, low: u64, high: u64) -
 
 fn fragment_body(s: &[u8], at: usize, n: u64, next: usize) -> SlotAt
     requires { next ≤ length s.now }
-    ensures { slotIs result ≡ R.fragmentBody s.now at (record { kind = Text; value = n; next = next }) }
+    ensures { slot_is result ≡ R.fragment_body s.now at (record { kind = Text; value = n; next = next }) }
 {
     match texts::text_body(s, next, n, Sort::Fragment) {
         Step::Refused(k) => SlotAt::Refused(Refusal {
@@ -332,7 +332,7 @@ fn fragment_body(s: &[u8], at: usize, n: u64, next: usize) -> SlotAt
 
 // A text, or null, or nothing where no item is left.
 fn fragment_at(s: &[u8], at: usize, left: usize) -> SlotAt
-    ensures { slotIs result ≡ R.readFragment s.now at left }
+    ensures { slot_is result ≡ R.read_fragment s.now at left }
 {
     if left == 0 {
         return SlotAt::Is {
@@ -358,7 +358,7 @@ fn fragment_at(s: &[u8], at: usize, left: usize) -> SlotAt
 
 // Nothing may stand after the port.
 fn nothing_at(s: &[u8], at: usize, left: usize) -> RowEnd
-    ensures { rowEndIs result ≡ R.readNothing s.now at left }
+    ensures { row_end_is result ≡ R.read_nothing s.now at left }
 {
     if left == 0 {
         return RowEnd::At(at);
@@ -377,7 +377,7 @@ fn nothing_at(s: &[u8], at: usize, left: usize) -> RowEnd
 
 // A port, whose head has been read, after `count` labels.
 fn port_body(s: &[u8], at: usize, left: usize, count: usize, n: u64, next: usize) -> Names
-    ensures { namesIs result ≡ R.portBody s.now at left count (record { kind = Number; value = n; next = next }) }
+    ensures { names_is result ≡ R.port_body s.now at left count (record { kind = Number; value = n; next = next }) }
 {
     if PORT < n {
         return Names::Refused(Refusal {
@@ -397,7 +397,7 @@ fn port_body(s: &[u8], at: usize, left: usize, count: usize, n: u64, next: usize
 
 // After an address: a port, or nothing.
 fn port_at(s: &[u8], at: usize, left: usize) -> Names
-    ensures { namesIs result ≡ R.readPort s.now at left }
+    ensures { names_is result ≡ R.read_port s.now at left }
 {
     if left == 0 {
         return Names::Are {
@@ -422,7 +422,7 @@ fn port_at(s: &[u8], at: usize, left: usize) -> Names
 // A label after `count` others, whose head has been read; a ninth is over the limit.
 fn label_body(s: &[u8], count: usize, n: u64, next: usize) -> Step
     requires { next ≤ length s.now }
-    ensures { (at : ℕ) → stepIs at result ≡ R.labelBody count s.now at (record { kind = Text; value = n; next = next }) }
+    ensures { (at : ℕ) → step_is at result ≡ R.label_body count s.now at (record { kind = Text; value = n; next = next }) }
 {
     if LABELS <= count {
         return Step::Refused(LIMIT);
@@ -433,7 +433,7 @@ fn label_body(s: &[u8], count: usize, n: u64, next: usize) -> Step
 // After `count` labels: a label, a port, or nothing, to the end of the `items` items.
 fn names_at(s: &[u8], at: usize, items: usize, count: usize) -> Names
     requires { count + items ≤ 9 }
-    ensures { namesIs result ≡ R.readNames s.now at items count }
+    ensures { names_is result ≡ R.read_names s.now at items count }
 {
     let mut here = at;
     let mut left = items;
@@ -471,7 +471,7 @@ fn names_at(s: &[u8], at: usize, items: usize, count: usize) -> Names
 
 // Whether an address may have n bytes.
 pub fn is_address_length(n: u64) -> bool
-    ensures { result ≡ addressSize n }
+    ensures { result ≡ address_size n }
 {
     match n {
         4 | 16 => true,
@@ -482,7 +482,7 @@ pub fn is_address_length(n: u64) -> bool
 // An address, whose head has been read, and a port.
 fn address_host(s: &[u8], start: usize, at: usize, left: usize, n: u64, next: usize) -> Authority
     requires { next ≤ length s.now }
-    ensures { authorityIs result ≡ R.addressHost s.now start at left (record { kind = ByteString; value = n; next = next }) }
+    ensures { authority_is result ≡ R.address_host s.now start at left (record { kind = ByteString; value = n; next = next }) }
 {
     if !is_address_length(n) {
         return Authority::Refused(Refusal {
@@ -518,7 +518,7 @@ fn address_host(s: &[u8], start: usize, at: usize, left: usize, n: u64, next: us
 // Labels, of which the first one's head has been read, and a port; then the rules over all labels.
 fn labels_host(s: &[u8], start: usize, at: usize, left: usize, n: u64, next: usize) -> Authority
     requires { (left ≤ 8) × (accepted Text n next ≡ read_head (λ k. is ByteString k || is Text k) s.now at) }
-    ensures { authorityIs result ≡ R.labelsHost s.now start at left (record { kind = Text; value = n; next = next }) }
+    ensures { authority_is result ≡ R.labels_host s.now start at left (record { kind = Text; value = n; next = next }) }
 {
     match label_body(s, 0, n, next) {
         Step::Refused(k) => Authority::Refused(Refusal {
@@ -552,7 +552,7 @@ fn labels_host(s: &[u8], start: usize, at: usize, left: usize, n: u64, next: usi
 // The host and port of an authority that starts at `start` and has `items` items, the first of them at `at`.
 fn host_at(s: &[u8], start: usize, at: usize, items: usize) -> Authority
     requires { (1 ≤ items) × (items ≤ 9) }
-    ensures { authorityIs result ≡ readHost s.now start at items }
+    ensures { authority_is result ≡ read_host s.now start at items }
 {
     match cbor::item_at(s, at, ADDRESS_OR_LABEL) {
         Item::ByteString { length: n, next } => address_host(s, start, at, items - 1, n, next),
@@ -569,7 +569,7 @@ fn host_at(s: &[u8], start: usize, at: usize, items: usize) -> Authority
 }
 
 fn authority_at(s: &[u8], at: usize) -> Authority
-    ensures { authorityIs result ≡ R.readAuthority s.now at }
+    ensures { authority_is result ≡ R.read_authority s.now at }
 {
     match array_head(s, at) {
         Head::Refused(refusal) => Authority::Refused(refusal),
@@ -595,7 +595,7 @@ fn authority_at(s: &[u8], at: usize) -> Authority
 
 // A scheme needs a second item, the authority.
 fn after_scheme(s: &[u8], at: usize, count: usize, scheme: SchemeAt, next: usize) -> Opened
-    ensures { openedIs result ≡ R.afterScheme s.now at count (schemeOf scheme) next }
+    ensures { opened_is result ≡ R.after_scheme s.now at count (scheme_of scheme) next }
 {
     if count < 2 {
         return Opened::Refused(Refusal {
@@ -628,7 +628,7 @@ fn lone_zero(count: usize, n: u64) -> bool
 
 // A discard, the first of `count` items.
 fn discard_body(count: usize, n: u64, next: usize) -> First
-    ensures { (bs : Bytes) (at : ℕ) → firstIs bs at count result ≡ R.openingBody bs at count (record { kind = Number; value = n; next = next }) Number }
+    ensures { (bs : Bytes) (at : ℕ) → first_is bs at count result ≡ R.opening_body bs at count (record { kind = Number; value = n; next = next }) Number }
 {
     if DISCARD < n {
         return First::Refused(LIMIT);
@@ -647,7 +647,7 @@ fn discard_body(count: usize, n: u64, next: usize) -> First
 
 // True, the first of `count` items.
 fn discard_all_body(count: usize, next: usize) -> First
-    ensures { (bs : Bytes) (at : ℕ) → firstIs bs at count result ≡ R.openingBody bs at count (record { kind = True; value = 21; next = next }) True }
+    ensures { (bs : Bytes) (at : ℕ) → first_is bs at count result ≡ R.opening_body bs at count (record { kind = True; value = 21; next = next }) True }
 {
     if DISCARD_ITEMS < count {
         return First::Refused(FORM);
@@ -661,7 +661,7 @@ fn discard_all_body(count: usize, next: usize) -> First
 // A scheme's name, whose head has been read.
 fn name_body(s: &[u8], n: u64, next: usize) -> First
     requires { next ≤ length s.now }
-    ensures { (at count : ℕ) → firstIs s.now at count result ≡ R.openingBody s.now at count (record { kind = Text; value = n; next = next }) Text }
+    ensures { (at count : ℕ) → first_is s.now at count result ≡ R.opening_body s.now at count (record { kind = Text; value = n; next = next }) Text }
 {
     match texts::scheme_body(s, next, n) {
         Step::Refused(k) => First::Refused(k),
@@ -677,7 +677,7 @@ fn name_body(s: &[u8], n: u64, next: usize) -> First
 
 // A scheme's number, whose head has been read: its id is -1 - n.
 fn number_body(n: u64, next: usize) -> First
-    ensures { (bs : Bytes) (at count : ℕ) → firstIs bs at count result ≡ R.openingBody bs at count (record { kind = Negative; value = n; next = next }) Negative }
+    ensures { (bs : Bytes) (at count : ℕ) → first_is bs at count result ≡ R.opening_body bs at count (record { kind = Negative; value = n; next = next }) Negative }
 {
     match scheme_id(n) {
         SchemeId::TooLarge => First::Refused(RULE),
@@ -699,7 +699,7 @@ fn number_body(n: u64, next: usize) -> First
 // The first of `count` items.
 fn first_at(s: &[u8], at: usize, count: usize) -> First
     requires { 0 < count }
-    ensures { firstIs s.now at count result ≡ R.readOpening s.now at count }
+    ensures { first_is s.now at count result ≡ R.read_opening s.now at count }
 {
     match cbor::item_at(s, at, MAY_OPEN) {
         Item::Number { value: n, next } => discard_body(count, n, next),
@@ -717,7 +717,7 @@ fn first_at(s: &[u8], at: usize, count: usize) -> First
 
 // The opening, at the head of `count` items.
 fn opening_at(s: &[u8], at: usize, count: usize) -> Opened
-    ensures { openedIs result ≡ R.readOpening s.now at count }
+    ensures { opened_is result ≡ R.read_opening s.now at count }
 {
     if count == 0 {
         return Opened::Is {
@@ -754,7 +754,7 @@ fn minus(a: usize, b: usize) -> usize
 
 // The end, after which nothing may stand.
 fn finish(s: &[u8], found: Found, next: usize) -> Answer
-    ensures { answerIs result ≡ readEnd s.now (foundOf found) next }
+    ensures { answer_is result ≡ read_end s.now (found_of found) next }
 {
     if next < s.len() {
         return Answer::Refused(Refusal {
@@ -767,7 +767,7 @@ fn finish(s: &[u8], found: Found, next: usize) -> Answer
 
 // Path, query and fragment, of which `left` items are left, and the end.
 fn rest_at(s: &[u8], opening: OpeningAt, at: usize, left: usize) -> Answer
-    ensures { answerIs result ≡ readRest limits s.now (openingOf opening) at left }
+    ensures { answer_is result ≡ read_rest limits s.now (opening_of opening) at left }
 {
     match array_at(s, at, left, Sort::Segment, 0, SEGMENTS as u64) {
         SlotAt::Refused(refusal) => Answer::Refused(refusal),
@@ -812,7 +812,7 @@ fn rest_at(s: &[u8], opening: OpeningAt, at: usize, left: usize) -> Answer
 
 // The `count` items of the outer array.
 fn items_at(s: &[u8], at: usize, count: usize) -> Answer
-    ensures { answerIs result ≡ readItems limits s.now at count }
+    ensures { answer_is result ≡ read_items limits s.now at count }
 {
     match opening_at(s, at, count) {
         Opened::Refused(refusal) => Answer::Refused(refusal),
@@ -826,7 +826,7 @@ fn items_at(s: &[u8], at: usize, count: usize) -> Answer
 
 // The whole reader.
 pub fn read(s: &[u8]) -> Answer
-    ensures { answerIs result ≡ R.read limits s.now }
+    ensures { answer_is result ≡ R.read limits s.now }
 {
     if BYTES < s.len() {
         return Answer::Refused(Refusal {

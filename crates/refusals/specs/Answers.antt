@@ -5,10 +5,10 @@ use Rattle.refusals.specs.declared.Verdict.{Verdict}
 use Rattle.refusals.specs.declared.Verdict.TheVariants as VerdictV
 
 -- the number and the place
-abbrev pub refusalIs : {A : Type 0} → Refusal → Res A
-refusalIs r = refused r.number r.place
+abbrev pub refusal_is : {A : Type 0} → Refusal → Res A
+refusal_is r = refused r.number r.place
 
 -- accepted, or the refusal
-abbrev pub verdictIs : Verdict → Res (Unit {0})
-verdictIs VerdictV.Accepted = ok tt
-verdictIs (VerdictV.Refused r) = refusalIs r
+abbrev pub verdict_is : Verdict → Res (Unit {0})
+verdict_is VerdictV.Accepted = ok tt
+verdict_is (VerdictV.Refused r) = refusal_is r

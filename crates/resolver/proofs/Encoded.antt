@@ -10,151 +10,151 @@ use lib.Dec.{leb}
 use borrow.Author.Tests.{le-leb, lt-leb}
 use Rattle.rules.specs.Bytes.{Bytes, concat}
 use Rattle.rules.specs.Result.{Res, refused, ok, need, given, ◌>>=◌, ◌>>◌, BASE, RESULT}
-use Rattle.rules.specs.Model.{Reference, limits, Cri, absolute, reference, setPath}
-use Rattle.rules.specs.Head.{headBytes, Array}
+use Rattle.rules.specs.Model.{Reference, limits, Cri, absolute, reference, set_path}
+use Rattle.rules.specs.Head.{head_bytes, Array}
 use Rattle.rules.specs.Reader.{taken, Found, read}
-use Rattle.rules.specs.Meaning.{meaning, readReference, readAbsolute}
-use Rattle.rules.specs.Encode.{arrayItem, or_null, schemeItem, authorityItem, tailItems, withOpening, encode}
-use Rattle.rules.specs.Resolve.{start, resolve, asBase, fits}
-use Rattle.rules.specs.Calls.{resolveCall}
-use Rattle.rules.proofs.Tools.{by-test, length_part}
-use Rattle.rules.proofs.Steps.{ok_at, refused-ok}
-use Rattle.rules.proofs.Resolving.{resolved-is}
-use Rattle.rules.proofs.Laid.{head-length, head-one}
-use Rattle.absolutes.specs.Bases.{isAbsolute, readBase}
-use Rattle.absolutes.proofs.AbsoluteOpenings.{absolute-opening, relative-opening, base_read}
-use Rattle.cbor.specs.Heads.{spanIs}
+use Rattle.rules.specs.Meaning.{meaning, read_reference, read_absolute}
+use Rattle.rules.specs.Encode.{array_item, or_null, scheme_item, authority_item, tail_items, with_opening, encode}
+use Rattle.rules.specs.Resolve.{start, resolve, as_base, fits}
+use Rattle.rules.specs.Calls.{resolve_call}
+use Rattle.rules.proofs.Tools.{by_test, length_part}
+use Rattle.rules.proofs.Steps.{ok_at, refused_ok}
+use Rattle.rules.proofs.Resolving.{resolved_is}
+use Rattle.rules.proofs.Laid.{head_length_lem, head_one}
+use Rattle.absolutes.specs.Bases.{is_absolute, read_base}
+use Rattle.absolutes.proofs.AbsoluteOpenings.{absolute_opening, relative_opening, base_read}
+use Rattle.cbor.specs.Heads.{span_is}
 use Rattle.resolver_parts.specs.declared.Both.{Both}
 use Rattle.resolver_parts.specs.declared.Parts.{Parts}
-use Rattle.resolver_parts.specs.Parts.{bothOf, BothInside, furtherItems, PartsAre}
-use Rattle.resolver.specs.Written.{BothSmall, pathHead, pathItems, PartsInside, PartsSmall, parts_of, partsResult}
-use Rattle.resolver.proofs.ResultItems.{tail-bytes, tail-count, items-most}
+use Rattle.resolver_parts.specs.Parts.{both_of, BothInside, further_items, PartsAre}
+use Rattle.resolver.specs.Written.{BothSmall, path_head, path_items, PartsInside, PartsSmall, parts_of, parts_result}
+use Rattle.resolver.proofs.ResultItems.{tail_bytes, tail_count, items_most}
 
 -- ---- its encoding
 
-pub parts-encode : (base ref : Bytes) (p : Parts) (c : Cri) → PartsAre base ref p c → parts_of base ref p ≡ encode (reference c)
-unfolding parts_of encode arrayItem withOpening reference or_null concat
-parts-encode base ref p c h =
+pub parts_encode : (base ref : Bytes) (p : Parts) (c : Cri) → PartsAre base ref p c → parts_of base ref p ≡ encode (reference c)
+unfolding parts_of encode array_item with_opening reference or_null concat
+parts_encode base ref p c h =
     let m = h.path.count in
     let n = h.tail.count in
-    let count : 2 + pathItems p.path.count p.tail.count + p.tail.count ≡ suc (suc (length (tailItems (setPath c.path) c.query c.fragment))) =
-    ap₂ (λ (x y : ℕ). 2 + pathItems x y + y) m n ∙ omega (arith, tail-count c.path c.query c.fragment) in
-    ap₂ (λ (n : ℕ) (w : Bytes). headBytes Array n ++ w) count
+    let count : 2 + path_items p.path.count p.tail.count + p.tail.count ≡ suc (suc (length (tail_items (set_path c.path) c.query c.fragment))) =
+    ap₂ (λ (x y : ℕ). 2 + path_items x y + y) m n ∙ omega (arith, tail_count c.path c.query c.fragment) in
+    ap₂ (λ (n : ℕ) (w : Bytes). head_bytes Array n ++ w) count
     (ap₂ (λ (x y : Bytes). x ++ y) h.front.bytes
-    (ap₂ (λ (x y : Bytes). x ++ y) (ap₂ pathHead m n) (ap₂ (λ (x y : Bytes). x ++ y) h.path.both.bytes h.tail.both.bytes))
-    ∙ append_assoc (schemeItem c.scheme) (authorityItem c.authority) _
-    ∙ ap (λ (l : Bytes). schemeItem c.scheme ++ (authorityItem c.authority ++ l)) (sym (tail-bytes c.path c.query c.fragment)))
+    (ap₂ (λ (x y : Bytes). x ++ y) (ap₂ path_head m n) (ap₂ (λ (x y : Bytes). x ++ y) h.path.both.bytes h.tail.both.bytes))
+    ∙ append_assoc (scheme_item c.scheme) (authority_item c.authority) _
+    ∙ ap (λ (l : Bytes). scheme_item c.scheme ++ (authority_item c.authority ++ l)) (sym (tail_bytes c.path c.query c.fragment)))
 
 -- ---- its length
 
-both-length : (base ref : Bytes) (b : Both) → BothInside base ref b → length (bothOf base ref b) ≡ b.base.length + b.reference.length
-unfolding bothOf
-both-length base ref b h =
-    length-append (taken base (spanIs b.base)) (taken ref (spanIs b.reference))
-    ∙ omega (arith, length_part base b.base.start b.base.length h.ofBase, length_part ref b.reference.start b.reference.length h.ofReference)
+both_length : (base ref : Bytes) (b : Both) → BothInside base ref b → length (both_of base ref b) ≡ b.base.length + b.reference.length
+unfolding both_of
+both_length base ref b h =
+    length-append (taken base (span_is b.base)) (taken ref (span_is b.reference))
+    ∙ omega (arith, length_part base b.base.start b.base.length h.of_base, length_part ref b.reference.start b.reference.length h.of_reference)
 
 module _ (p : Parts) where
   -- how many items there are
   abbrev pub count : ℕ
-  count = 2 + pathItems p.path.count p.tail.count + p.tail.count
+  count = 2 + path_items p.path.count p.tail.count + p.tail.count
 
   -- as the code counts them
-  pub counted : {n : ℕ} → n ≡ pathItems p.path.count p.tail.count → 2 + n + p.tail.count ≡ count
+  pub counted : {n : ℕ} → n ≡ path_items p.path.count p.tail.count → 2 + n + p.tail.count ≡ count
   counted e = ap (λ (n : ℕ). 2 + n + p.tail.count) e
 
   count_most : PartsSmall p → count ≤ 5
-  count_most s = omega (arith, s.further, items-most p.path.count p.tail.count)
+  count_most s = omega (arith, s.further, items_most p.path.count p.tail.count)
 
-  head-size : PartsSmall p → length (headBytes Array count) ≡ 1
-  head-size s = head-length Array count ∙ head-one count (omega (arith, count_most s))
+  head_size : PartsSmall p → length (head_bytes Array count) ≡ 1
+  head_size s = head_length_lem Array count ∙ head_one count (omega (arith, count_most s))
 
 module _ (base ref : Bytes) (p : Parts) where
-  pub parts-length : PartsSmall p → PartsInside base ref p → length (parts_of base ref p)
-      ≡ 1 + (p.front.base.length + p.front.reference.length) + length (pathHead p.path.count p.tail.count)
+  pub parts_length : PartsSmall p → PartsInside base ref p → length (parts_of base ref p)
+      ≡ 1 + (p.front.base.length + p.front.reference.length) + length (path_head p.path.count p.tail.count)
       + (p.path.texts.base.length + p.path.texts.reference.length) + (p.tail.items.base.length + p.tail.items.reference.length)
   unfolding parts_of
-  parts-length s h =
-      let f : Bytes = bothOf base ref p.front in
-      let d : Bytes = pathHead p.path.count p.tail.count in
-      let t : Bytes = bothOf base ref p.path.texts in
-      let i : Bytes = bothOf base ref p.tail.items in
+  parts_length s h =
+      let f : Bytes = both_of base ref p.front in
+      let d : Bytes = path_head p.path.count p.tail.count in
+      let t : Bytes = both_of base ref p.path.texts in
+      let i : Bytes = both_of base ref p.tail.items in
       omega (
         arith,
-        length-append (headBytes Array (count p)) (f ++ (d ++ (t ++ i))),
+        length-append (head_bytes Array (count p)) (f ++ (d ++ (t ++ i))),
         length-append f (d ++ (t ++ i)),
         length-append d (t ++ i),
         length-append t i,
-        head-size p s,
-        both-length base ref p.front h.front,
-        both-length base ref p.path.texts h.path,
-        both-length base ref p.tail.items h.tail,
+        head_size p s,
+        both_length base ref p.front h.front,
+        both_length base ref p.path.texts h.path,
+        both_length base ref p.tail.items h.tail,
       )
 
   -- what the places of the pieces follow from, with an outer head for n items
   pub record Sizes (n : ℕ) : Type 0 where
     pub total : length (parts_of base ref p)
-        ≡ 1 + (p.front.base.length + p.front.reference.length) + length (pathHead p.path.count p.tail.count)
+        ≡ 1 + (p.front.base.length + p.front.reference.length) + length (path_head p.path.count p.tail.count)
         + (p.path.texts.base.length + p.path.texts.reference.length) + (p.tail.items.base.length + p.tail.items.reference.length)
-    pub head : length (headBytes Array n) ≡ 1
-    pub front : length (bothOf base ref p.front) ≡ p.front.base.length + p.front.reference.length
-    pub path : length (bothOf base ref p.path.texts) ≡ p.path.texts.base.length + p.path.texts.reference.length
+    pub head : length (head_bytes Array n) ≡ 1
+    pub front : length (both_of base ref p.front) ≡ p.front.base.length + p.front.reference.length
+    pub path : length (both_of base ref p.path.texts) ≡ p.path.texts.base.length + p.path.texts.reference.length
 
-  pub sizes : PartsSmall p × PartsInside base ref p → {n : ℕ} → n ≡ pathItems p.path.count p.tail.count → Sizes (2 + n + p.tail.count)
+  pub sizes : PartsSmall p × PartsInside base ref p → {n : ℕ} → n ≡ path_items p.path.count p.tail.count → Sizes (2 + n + p.tail.count)
   sizes h e =
       record {
-        total = parts-length h.0 h.1;
-        head = ap (λ (n : ℕ). length (headBytes Array n)) (counted p e) ∙ head-size p h.0;
-        front = both-length base ref p.front h.1.front;
-        path = both-length base ref p.path.texts h.1.path;
+        total = parts_length h.0 h.1;
+        head = ap (λ (n : ℕ). length (head_bytes Array n)) (counted p e) ∙ head_size p h.0;
+        front = both_length base ref p.front h.1.front;
+        path = both_length base ref p.path.texts h.1.path;
       }
 
   -- ---- 5.5
 
-  pub over-segments : limits.segments < p.path.count → partsResult base ref p ≡ refused RESULT 0
-  unfolding partsResult need ◌>>◌
-  over-segments h = rw (lt-leb p.path.count limits.segments h)
+  pub over_segments : limits.segments < p.path.count → parts_result base ref p ≡ refused RESULT 0
+  unfolding parts_result need ◌>>◌
+  over_segments h = rw (lt-leb p.path.count limits.segments h)
 
-  pub over-bytes : limits.bytes < length (parts_of base ref p) → partsResult base ref p ≡ refused RESULT 0
-  unfolding partsResult need ◌>>◌
-  over-bytes h =
+  pub over_bytes : limits.bytes < length (parts_of base ref p) → parts_result base ref p ≡ refused RESULT 0
+  unfolding parts_result need ◌>>◌
+  over_bytes h =
       rw (lt-leb (length (parts_of base ref p)) limits.bytes h)
-      (by-test (λ (t : Bool). (need (t && false) RESULT 0 >> ok (parts_of base ref p)) ≡ refused RESULT 0) (leb p.path.count limits.segments) (λ _. refl) (λ _. refl))
+      (by_test (λ (t : Bool). (need (t && false) RESULT 0 >> ok (parts_of base ref p)) ≡ refused RESULT 0) (leb p.path.count limits.segments) (λ _. refl) (λ _. refl))
 
-  pub within_both : p.path.count ≤ limits.segments → length (parts_of base ref p) ≤ limits.bytes → partsResult base ref p ≡ ok (parts_of base ref p)
-  unfolding partsResult need ◌>>◌
+  pub within_both : p.path.count ≤ limits.segments → length (parts_of base ref p) ≤ limits.bytes → parts_result base ref p ≡ ok (parts_of base ref p)
+  unfolding parts_result need ◌>>◌
   within_both h k = rw (le-leb p.path.count limits.segments h, le-leb (length (parts_of base ref p)) limits.bytes k)
 
 -- parts of inputs that were accepted are small and inside
 
-pub parts-inside : (base ref : Bytes) (p : Parts) (c : Cri) → PartsAre base ref p c → PartsInside base ref p
-parts-inside base ref p c h = record { front = h.front.inside; path = h.path.both.inside; tail = h.tail.both.inside }
+pub parts_inside : (base ref : Bytes) (p : Parts) (c : Cri) → PartsAre base ref p c → PartsInside base ref p
+parts_inside base ref p c h = record { front = h.front.inside; path = h.path.both.inside; tail = h.tail.both.inside }
 
 both_small : (base ref : Bytes) (b : Both) → length base ≤ limits.bytes → length ref ≤ limits.bytes → BothInside base ref b → BothSmall b
-both_small base ref b h k i = record { ofBase = omega (arith, i.ofBase); ofReference = omega (arith, i.ofReference) }
+both_small base ref b h k i = record { of_base = omega (arith, i.of_base); of_reference = omega (arith, i.of_reference) }
 
-further-most : (q : Option (List Bytes)) (f : Option Bytes) → furtherItems q f ≤ 2
-further-most q (some f) = omega arith
-further-most (some q) none = omega arith
-further-most none none = omega arith
+further_most : (q : Option (List Bytes)) (f : Option Bytes) → further_items q f ≤ 2
+further_most q (some f) = omega arith
+further_most (some q) none = omega arith
+further_most none none = omega arith
 
-pub parts-small : (base ref : Bytes) (p : Parts) (c : Cri) → length base ≤ limits.bytes → length ref ≤ limits.bytes → PartsAre base ref p c → PartsSmall p
-parts-small base ref p c h k a =
+pub parts_small : (base ref : Bytes) (p : Parts) (c : Cri) → length base ≤ limits.bytes → length ref ≤ limits.bytes → PartsAre base ref p c → PartsSmall p
+parts_small base ref p c h k a =
     let small : (b : Both) → BothInside base ref b → BothSmall b = λ b. both_small base ref b h k in
     record {
       front = small p.front a.front.inside;
       path = small p.path.texts a.path.both.inside;
       tail = small p.tail.items a.tail.both.inside;
-      further = omega (arith, a.tail.count, further-most c.query c.fragment);
+      further = omega (arith, a.tail.count, further_most c.query c.fragment);
     }
 
 -- ---- the call
 
-pub call-parts : (base ref : Bytes) (b : Cri) (r : Reference) (p : Parts) → readAbsolute limits base ≡ ok b → readReference limits ref ≡ ok r → PartsAre base ref p (resolve b r)
-    → resolveCall limits base ref ≡ partsResult base ref p
-unfolding partsResult fits
-call-parts base ref b r p d e h =
-    resolved-is limits base ref b r d e
-    ∙ ap₂ (λ (n : ℕ) (w : Bytes). need (leb n limits.segments && leb (length w) limits.bytes) RESULT 0 >> ok w) (sym h.path.count) (sym (parts-encode base ref p _ h))
+pub call_parts : (base ref : Bytes) (b : Cri) (r : Reference) (p : Parts) → read_absolute limits base ≡ ok b → read_reference limits ref ≡ ok r → PartsAre base ref p (resolve b r)
+    → resolve_call limits base ref ≡ parts_result base ref p
+unfolding parts_result fits
+call_parts base ref b r p d e h =
+    resolved_is limits base ref b r d e
+    ∙ ap₂ (λ (n : ℕ) (w : Bytes). need (leb n limits.segments && leb (length w) limits.bytes) RESULT 0 >> ok w) (sym h.path.count) (sym (parts_encode base ref p _ h))
 
 -- ---- the base
 
@@ -163,36 +163,36 @@ pub record BaseRead (bs : Bytes) (f : Found) : Type 0 where
   pub cri : Cri
   pub found : read limits bs ≡ ok f
   pub says : absolute (meaning bs f) ≡ some cri
-  pub absolute : readAbsolute limits bs ≡ ok cri
+  pub absolute : read_absolute limits bs ≡ ok cri
 
-absolute-read : (bs : Bytes) (f : Found) (c : Cri) → read limits bs ≡ ok f → absolute (meaning bs f) ≡ some c → readAbsolute limits bs ≡ ok c
-unfolding readAbsolute readReference ◌>>=◌ given
-absolute-read bs f c d e = rw (d, e)
+absolute_read : (bs : Bytes) (f : Found) (c : Cri) → read limits bs ≡ ok f → absolute (meaning bs f) ≡ some c → read_absolute limits bs ≡ ok c
+unfolding read_absolute read_reference ◌>>=◌ given
+absolute_read bs f c d e = rw (d, e)
 
-pub base-says : (bs : Bytes) (f : Found) → readBase limits bs ≡ ok f → BaseRead bs f
-base-says bs f e =
+pub base_says : (bs : Bytes) (f : Found) → read_base limits bs ≡ ok f → BaseRead bs f
+base_says bs f e =
     let h = ok_at (base_read limits bs) e in
-    let c = absolute-opening bs f h.1 in
-    record { cri = c.0; found = h.0; says = c.1; absolute = absolute-read bs f c.0 h.0 c.1 }
+    let c = absolute_opening bs f h.1 in
+    record { cri = c.0; found = h.0; says = c.1; absolute = absolute_read bs f c.0 h.0 c.1 }
 
-pub base-refused : (base ref : Bytes) (n k : ℕ) → readBase limits base ≡ refused n k → resolveCall limits base ref ≡ refused n k
-unfolding resolveCall readBase readAbsolute readReference need ◌>>◌ ◌>>=◌ given
-base-refused base ref n k e = go (read limits base) refl e
+pub base_refused : (base ref : Bytes) (n k : ℕ) → read_base limits base ≡ refused n k → resolve_call limits base ref ≡ refused n k
+unfolding resolve_call read_base read_absolute read_reference need ◌>>◌ ◌>>=◌ given
+base_refused base ref n k e = go (read limits base) refl e
   where
-    judged : (g : Found) (t : Bool) → isAbsolute g.opening ≡ t → read limits base ≡ ok g → (need t BASE 0 >> ok g) ≡ refused n k
-        → resolveCall limits base ref ≡ refused n k
-    judged g true a m e = refused-ok n k g (sym e)
-    judged g false a m e = let d : BASE ≡ n = cc in let o : 0 ≡ k = cc in rw (m, relative-opening base g a) (ap₂ refused d o)
+    judged : (g : Found) (t : Bool) → is_absolute g.opening ≡ t → read limits base ≡ ok g → (need t BASE 0 >> ok g) ≡ refused n k
+        → resolve_call limits base ref ≡ refused n k
+    judged g true a m e = refused_ok n k g (sym e)
+    judged g false a m e = let d : BASE ≡ n = cc in let o : 0 ≡ k = cc in rw (m, relative_opening base g a) (ap₂ refused d o)
 
-    go : (m : Res Found) → read limits base ≡ m → (asBase m >>= λ b. need (isAbsolute b.opening) BASE 0 >> ok b) ≡ refused n k
-        → resolveCall limits base ref ≡ refused n k
+    go : (m : Res Found) → read limits base ≡ m → (as_base m >>= λ b. need (is_absolute b.opening) BASE 0 >> ok b) ≡ refused n k
+        → resolve_call limits base ref ≡ refused n k
     go (refused i j) m e = let d : BASE ≡ n = cc in let o : j ≡ k = cc in rw m (ap₂ refused d o)
-    go (ok g) m e = judged g (isAbsolute g.opening) refl m e
+    go (ok g) m e = judged g (is_absolute g.opening) refl m e
 
-pub reference-refused : (base ref : Bytes) (b : Cri) (n k : ℕ) → readAbsolute limits base ≡ ok b → read limits ref ≡ refused n k → resolveCall limits base ref ≡ refused n k
-unfolding resolveCall readReference ◌>>=◌
-reference-refused base ref b n k d e = rw (d, e)
+pub reference_refused : (base ref : Bytes) (b : Cri) (n k : ℕ) → read_absolute limits base ≡ ok b → read limits ref ≡ refused n k → resolve_call limits base ref ≡ refused n k
+unfolding resolve_call read_reference ◌>>=◌
+reference_refused base ref b n k d e = rw (d, e)
 
-pub read-reference : (ref : Bytes) (f : Found) → read limits ref ≡ ok f → readReference limits ref ≡ ok (meaning ref f)
-unfolding readReference ◌>>=◌
-read-reference ref f e = rw e
+pub read_reference_lem : (ref : Bytes) (f : Found) → read limits ref ≡ ok f → read_reference limits ref ≡ ok (meaning ref f)
+unfolding read_reference ◌>>=◌
+read_reference_lem ref f e = rw e

@@ -5,94 +5,94 @@ use mathlib.Core.Path.{◌≡◌, refl, ap, ◌∙◌}
 use mathlib.Core.List.{List, [], ◌∷◌, ◌++◌, append_assoc, append-nil, map}
 use mathlib.Core.Option.{Option, none, some}
 use lib.ListN.{length, length-map}
-use Rattle.rules.specs.Bytes.{Bytes, concat, bigEndian}
-use Rattle.rules.specs.Model.{setPath}
-use Rattle.rules.specs.Head.{Array, Null, headBytes, majorOf, shortest, width}
-use Rattle.rules.specs.Encode.{textItem, arrayItem, textsItem, nullItem, or_null, tailItems}
-use Rattle.rules.specs.Laid.{texts, queryItem, fragmentItem}
-use Rattle.cbor_heads.proofs.ShortestHead.{head-most}
-use Rattle.resolver_parts.specs.Parts.{furtherItems}
-use Rattle.resolver.specs.Written.{pathHead, pathItems}
+use Rattle.rules.specs.Bytes.{Bytes, concat, big_endian}
+use Rattle.rules.specs.Model.{set_path}
+use Rattle.rules.specs.Head.{Array, Null, head_bytes, major_of, shortest, width}
+use Rattle.rules.specs.Encode.{text_item, array_item, texts_item, null_item, or_null, tail_items}
+use Rattle.rules.specs.Laid.{texts, query_item, fragment_item}
+use Rattle.cbor_heads.proofs.ShortestHead.{head_most}
+use Rattle.resolver_parts.specs.Parts.{further_items}
+use Rattle.resolver.specs.Written.{path_head, path_items}
 
 -- an array of texts before other bytes
-texts-then : (ts : List Bytes) (w : Bytes) → textsItem ts ++ w ≡ headBytes Array (length ts) ++ (texts ts ++ w)
-unfolding textsItem arrayItem
-texts-then ts w =
-    append_assoc (headBytes Array (length (map textItem ts))) (texts ts) w ∙ ap (λ (n : ℕ). headBytes Array n ++ (texts ts ++ w)) (length-map ts textItem)
+texts_then : (ts : List Bytes) (w : Bytes) → texts_item ts ++ w ≡ head_bytes Array (length ts) ++ (texts ts ++ w)
+unfolding texts_item array_item
+texts_then ts w =
+    append_assoc (head_bytes Array (length (map text_item ts))) (texts ts) w ∙ ap (λ (n : ℕ). head_bytes Array n ++ (texts ts ++ w)) (length-map ts text_item)
 
 -- path, query and fragment
-pub tail-bytes : (p : List Bytes) (q : Option (List Bytes)) (f : Option Bytes)
-    → concat (tailItems (setPath p) q f) ≡ pathHead (length p) (furtherItems q f) ++ (texts p ++ (queryItem q f ++ fragmentItem f))
-unfolding tailItems concat or_null pathHead
-tail-bytes [] (some q) (some f) = ap (λ (l : Bytes). nullItem ++ (textsItem q ++ l)) (append-nil (textItem f))
-tail-bytes [] none (some f) = ap (λ (l : Bytes). nullItem ++ (nullItem ++ l)) (append-nil (textItem f))
-tail-bytes [] (some q) none = refl
-tail-bytes [] none none = refl
-tail-bytes (t ∷ p) (some q) (some f) = ap (λ (l : Bytes). textsItem (t ∷ p) ++ (textsItem q ++ l)) (append-nil (textItem f)) ∙ texts-then (t ∷ p) _
-tail-bytes (t ∷ p) none (some f) = ap (λ (l : Bytes). textsItem (t ∷ p) ++ (nullItem ++ l)) (append-nil (textItem f)) ∙ texts-then (t ∷ p) _
-tail-bytes (t ∷ p) (some q) none = texts-then (t ∷ p) _
-tail-bytes (t ∷ p) none none = texts-then (t ∷ p) _
+pub tail_bytes : (p : List Bytes) (q : Option (List Bytes)) (f : Option Bytes)
+    → concat (tail_items (set_path p) q f) ≡ path_head (length p) (further_items q f) ++ (texts p ++ (query_item q f ++ fragment_item f))
+unfolding tail_items concat or_null path_head
+tail_bytes [] (some q) (some f) = ap (λ (l : Bytes). null_item ++ (texts_item q ++ l)) (append-nil (text_item f))
+tail_bytes [] none (some f) = ap (λ (l : Bytes). null_item ++ (null_item ++ l)) (append-nil (text_item f))
+tail_bytes [] (some q) none = refl
+tail_bytes [] none none = refl
+tail_bytes (t ∷ p) (some q) (some f) = ap (λ (l : Bytes). texts_item (t ∷ p) ++ (texts_item q ++ l)) (append-nil (text_item f)) ∙ texts_then (t ∷ p) _
+tail_bytes (t ∷ p) none (some f) = ap (λ (l : Bytes). texts_item (t ∷ p) ++ (null_item ++ l)) (append-nil (text_item f)) ∙ texts_then (t ∷ p) _
+tail_bytes (t ∷ p) (some q) none = texts_then (t ∷ p) _
+tail_bytes (t ∷ p) none none = texts_then (t ∷ p) _
 
-pub tail-count : (p : List Bytes) (q : Option (List Bytes)) (f : Option Bytes) → length (tailItems (setPath p) q f) ≡ pathItems (length p) (furtherItems q f) + furtherItems q f
-unfolding tailItems pathItems
-tail-count [] q (some f) = refl
-tail-count [] (some q) none = refl
-tail-count [] none none = refl
-tail-count (t ∷ p) q (some f) = refl
-tail-count (t ∷ p) (some q) none = refl
-tail-count (t ∷ p) none none = refl
+pub tail_count : (p : List Bytes) (q : Option (List Bytes)) (f : Option Bytes) → length (tail_items (set_path p) q f) ≡ path_items (length p) (further_items q f) + further_items q f
+unfolding tail_items path_items
+tail_count [] q (some f) = refl
+tail_count [] (some q) none = refl
+tail_count [] none none = refl
+tail_count (t ∷ p) q (some f) = refl
+tail_count (t ∷ p) (some q) none = refl
+tail_count (t ∷ p) none none = refl
 
 -- ---- what stands before the segments, by how many there are and how many items follow
 
-pub items-path : (n k : ℕ) → 0 < n → 1 ≡ pathItems n k
-unfolding pathItems
-items-path zero k h = absurd (omega arith)
-items-path (suc n) k h = refl
+pub items_path : (n k : ℕ) → 0 < n → 1 ≡ path_items n k
+unfolding path_items
+items_path zero k h = absurd (omega arith)
+items_path (suc n) k h = refl
 
-pub items-null : (n k : ℕ) → n ≤ 0 → 0 < k → 1 ≡ pathItems n k
-unfolding pathItems
-items-null (suc n) k h j = absurd (omega arith)
-items-null zero zero h j = absurd (omega arith)
-items-null zero (suc k) h j = refl
+pub items_null : (n k : ℕ) → n ≤ 0 → 0 < k → 1 ≡ path_items n k
+unfolding path_items
+items_null (suc n) k h j = absurd (omega arith)
+items_null zero zero h j = absurd (omega arith)
+items_null zero (suc k) h j = refl
 
-pub items-none : (n k : ℕ) → n ≤ 0 → k ≤ 0 → 0 ≡ pathItems n k
-unfolding pathItems
-items-none (suc n) k h j = absurd (omega arith)
-items-none zero zero h j = refl
-items-none zero (suc k) h j = absurd (omega arith)
+pub items_none : (n k : ℕ) → n ≤ 0 → k ≤ 0 → 0 ≡ path_items n k
+unfolding path_items
+items_none (suc n) k h j = absurd (omega arith)
+items_none zero zero h j = refl
+items_none zero (suc k) h j = absurd (omega arith)
 
-pub items-most : (n k : ℕ) → pathItems n k ≤ 1
-unfolding pathItems
-items-most (suc n) k = omega arith
-items-most zero zero = omega arith
-items-most zero (suc k) = omega arith
+pub items_most : (n k : ℕ) → path_items n k ≤ 1
+unfolding path_items
+items_most (suc n) k = omega arith
+items_most zero zero = omega arith
+items_most zero (suc k) = omega arith
 
-pub head-path : (n k : ℕ) → 0 < n → headBytes Array n ≡ pathHead n k
-unfolding pathHead
-head-path zero k h = absurd (omega arith)
-head-path (suc n) k h = refl
+pub head_path : (n k : ℕ) → 0 < n → head_bytes Array n ≡ path_head n k
+unfolding path_head
+head_path zero k h = absurd (omega arith)
+head_path (suc n) k h = refl
 
-pub head-null : (n k : ℕ) → n ≤ 0 → 0 < k → headBytes Null 22 ≡ pathHead n k
-unfolding pathHead headBytes majorOf shortest width bigEndian
-head-null (suc n) k h j = absurd (omega arith)
-head-null zero zero h j = absurd (omega arith)
-head-null zero (suc k) h j = refl
+pub head_null : (n k : ℕ) → n ≤ 0 → 0 < k → head_bytes Null 22 ≡ path_head n k
+unfolding path_head head_bytes major_of shortest width big_endian
+head_null (suc n) k h j = absurd (omega arith)
+head_null zero zero h j = absurd (omega arith)
+head_null zero (suc k) h j = refl
 
-pub head-none : (n k : ℕ) → n ≤ 0 → k ≤ 0 → [] ≡ pathHead n k
-unfolding pathHead
-head-none (suc n) k h j = absurd (omega arith)
-head-none zero zero h j = refl
-head-none zero (suc k) h j = absurd (omega arith)
+pub head_none : (n k : ℕ) → n ≤ 0 → k ≤ 0 → [] ≡ path_head n k
+unfolding path_head
+head_none (suc n) k h j = absurd (omega arith)
+head_none zero zero h j = refl
+head_none zero (suc k) h j = absurd (omega arith)
 
 -- where there is no segment, as many bytes as items
-pub head-items : (n k : ℕ) → n ≤ 0 → pathItems 0 k ≡ length (pathHead n k)
-unfolding pathHead pathItems
-head-items (suc n) k h = absurd (omega arith)
-head-items zero zero h = refl
-head-items zero (suc k) h = refl
+pub head_items : (n k : ℕ) → n ≤ 0 → path_items 0 k ≡ length (path_head n k)
+unfolding path_head path_items
+head_items (suc n) k h = absurd (omega arith)
+head_items zero zero h = refl
+head_items zero (suc k) h = refl
 
-pub head-most-path : (n k : ℕ) → length (pathHead n k) ≤ 9
-unfolding pathHead
-head-most-path (suc n) k = head-most Array (suc n)
-head-most-path zero zero = omega arith
-head-most-path zero (suc k) = omega arith
+pub head_most_path : (n k : ℕ) → length (path_head n k) ≤ 9
+unfolding path_head
+head_most_path (suc n) k = head_most Array (suc n)
+head_most_path zero zero = omega arith
+head_most_path zero (suc k) = omega arith

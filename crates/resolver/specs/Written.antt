@@ -3,23 +3,23 @@ use Rattle.std.specs.Prelude.{ℕ, zero, suc, ◌+◌, ◌≤◌, ◌&&◌, [], 
 use Rattle.rules.specs.Bytes.{Bytes}
 use Rattle.rules.specs.Result.{Res, ok, need, ◌>>◌, RESULT}
 use Rattle.rules.specs.Model.{limits}
-use Rattle.rules.specs.Head.{headBytes, Array}
-use Rattle.rules.specs.Encode.{nullItem}
+use Rattle.rules.specs.Head.{head_bytes, Array}
+use Rattle.rules.specs.Encode.{null_item}
 use Rattle.resolver_parts.specs.declared.Both.{Both}
 use Rattle.resolver_parts.specs.declared.Parts.{Parts}
-use Rattle.resolver_parts.specs.Parts.{bothOf, BothInside}
+use Rattle.resolver_parts.specs.Parts.{both_of, BothInside}
 
 -- what stands before the segments of a path, where `further` items follow: the array's head; null for no path; nothing where nothing follows
-unfoldable pub pathHead : ℕ → ℕ → Bytes
-pathHead (suc n) further = headBytes Array (suc n)
-pathHead zero (suc k) = nullItem
-pathHead zero zero = []
+unfoldable pub path_head : ℕ → ℕ → Bytes
+path_head (suc n) further = head_bytes Array (suc n)
+path_head zero (suc k) = null_item
+path_head zero zero = []
 
 -- how many items a path is, before `further` others
-unfoldable pub pathItems : ℕ → ℕ → ℕ
-pathItems (suc n) further = 1
-pathItems zero (suc k) = 1
-pathItems zero zero = 0
+unfoldable pub path_items : ℕ → ℕ → ℕ
+path_items (suc n) further = 1
+path_items zero (suc k) = 1
+path_items zero zero = 0
 
 -- all the parts lie inside
 pub record PartsInside (base ref : Bytes) (p : Parts) : Type 0 where
@@ -29,8 +29,8 @@ pub record PartsInside (base ref : Bytes) (p : Parts) : Type 0 where
 
 -- no part is longer than an input may be
 pub record BothSmall (b : Both) : Type 0 where
-  pub ofBase : b.base.length ≤ limits.bytes
-  pub ofReference : b.reference.length ≤ limits.bytes
+  pub of_base : b.base.length ≤ limits.bytes
+  pub of_reference : b.reference.length ≤ limits.bytes
 
 -- the same of all, and of the counts
 pub record PartsSmall (p : Parts) : Type 0 where
@@ -42,13 +42,13 @@ pub record PartsSmall (p : Parts) : Type 0 where
 -- the bytes that they say
 unfoldable pub parts_of : Bytes → Bytes → Parts → Bytes
 parts_of base ref p =
-    headBytes Array (2 + pathItems p.path.count p.tail.count + p.tail.count)
-    ++ (bothOf base ref p.front
-    ++ (pathHead p.path.count p.tail.count
-    ++ (bothOf base ref p.path.texts ++ bothOf base ref p.tail.items)))
+    head_bytes Array (2 + path_items p.path.count p.tail.count + p.tail.count)
+    ++ (both_of base ref p.front
+    ++ (path_head p.path.count p.tail.count
+    ++ (both_of base ref p.path.texts ++ both_of base ref p.tail.items)))
 
 -- RULES 5.5: 9 where there are too many segments or bytes
-unfoldable pub partsResult : Bytes → Bytes → Parts → Res Bytes
-partsResult base ref p = do
+unfoldable pub parts_result : Bytes → Bytes → Parts → Res Bytes
+parts_result base ref p = do
   need (leb p.path.count limits.segments && leb (length (parts_of base ref p)) limits.bytes) RESULT 0
   ok (parts_of base ref p)

@@ -2,11 +2,11 @@
 ghost use Rattle.std.specs.Prelude.{◌+◌, ◌≤◌, ◌≡◌, length};
 ghost use Rattle.rules.specs.Bytes.{Bytes};
 ghost use Rattle.rules.specs.Model.{limits};
-ghost use Rattle.rules.specs.Calls.{outcome, after, resolveCall};
+ghost use Rattle.rules.specs.Calls.{outcome, after, resolve_call};
 ghost use Rattle.put.specs.Wrote.{Wrote};
-ghost use Rattle.outcomes.specs.Answers.{outcomeIs};
-ghost use Rattle.resolver_parts.specs.Parts.{bothOf, BothInside};
-ghost use Rattle.resolver.specs.Written.{BothSmall, pathHead, pathItems, PartsInside, PartsSmall, parts_of, partsResult};
+ghost use Rattle.outcomes.specs.Answers.{outcome_is};
+ghost use Rattle.resolver_parts.specs.Parts.{both_of, BothInside};
+ghost use Rattle.resolver.specs.Written.{BothSmall, path_head, path_items, PartsInside, PartsSmall, parts_of, parts_result};
 
 use cbor::Kind;
 use cbor_heads::{head_length, put_head};
@@ -25,7 +25,7 @@ fn both_length(b: Both) -> usize
 
 // How many items the path is: one where it has segments or `further` items follow it, else none.
 fn path_items(segments: usize, further: usize) -> usize
-    ensures { result ≡ pathItems segments further }
+    ensures { result ≡ path_items segments further }
 {
     if 0 < segments {
         return 1;
@@ -37,7 +37,7 @@ fn path_items(segments: usize, further: usize) -> usize
 }
 
 fn path_head_length(segments: usize, further: usize) -> usize
-    ensures { result ≡ length (pathHead segments further) }
+    ensures { result ≡ length (path_head segments further) }
 {
     if 0 < segments {
         return head_length(segments as u64);
@@ -46,8 +46,8 @@ fn path_head_length(segments: usize, further: usize) -> usize
 }
 
 fn put_path_head(room: &mut [u8], at: usize, segments: usize, further: usize) -> usize
-    requires { at + length (pathHead segments further) ≤ length room.old }
-    ensures { Wrote room.old at (pathHead segments further) room.new result }
+    requires { at + length (path_head segments further) ≤ length room.old }
+    ensures { Wrote room.old at (path_head segments further) room.new result }
 {
     if 0 < segments {
         return put_head(room, at, Kind::Array, segments as u64);
@@ -61,7 +61,7 @@ fn put_path_head(room: &mut [u8], at: usize, segments: usize, further: usize) ->
 fn put_both(room: &mut [u8], at: usize, base: &[u8], reference: &[u8], b: Both) -> usize
     requires both_inside { BothInside base.now reference.now b }
     requires length_in_bounds { at + (b.base.length + b.reference.length) ≤ length room.old }
-    ensures { Wrote room.old at (bothOf base.now reference.now b) room.new result }
+    ensures { Wrote room.old at (both_of base.now reference.now b) room.new result }
 {
     let mid = put_part(room, at, base, b.base.start, b.base.length);
     put_part(room, mid, reference, b.reference.start, b.reference.length)
@@ -105,8 +105,8 @@ fn put_parts(room: &mut [u8], base: &[u8], reference: &[u8], p: Parts) -> usize
 // The answer, and the result in the room.
 fn put_result(base: &[u8], reference: &[u8], p: Parts, room: &mut [u8]) -> Outcome
     requires { PartsSmall p × PartsInside base.now reference.now p }
-    ensures result_value { outcomeIs result ≡ outcome (partsResult base.now reference.now p) (length room.old) }
-    ensures room_after { room.new ≡ after (partsResult base.now reference.now p) room.old }
+    ensures result_value { outcome_is result ≡ outcome (parts_result base.now reference.now p) (length room.old) }
+    ensures room_after { room.new ≡ after (parts_result base.now reference.now p) room.old }
 {
     let path = p.path;
     if SEGMENTS < path.count {
@@ -124,8 +124,8 @@ fn put_result(base: &[u8], reference: &[u8], p: Parts, room: &mut [u8]) -> Outco
 
 // The answer, and the encoding of the resolved CRI in the room.
 pub fn resolve(base: &[u8], reference: &[u8], room: &mut [u8]) -> Outcome
-    ensures result_value { outcomeIs result ≡ outcome (resolveCall limits base.now reference.now) (length room.old) }
-    ensures room_after { room.new ≡ after (resolveCall limits base.now reference.now) room.old }
+    ensures result_value { outcome_is result ≡ outcome (resolve_call limits base.now reference.now) (length room.old) }
+    ensures room_after { room.new ≡ after (resolve_call limits base.now reference.now) room.old }
 {
     match absolutes::read_base(base) {
         Answer::Refused(refusal) => Outcome::Refused(refusal),

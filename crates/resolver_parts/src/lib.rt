@@ -2,13 +2,13 @@
 ghost use Rattle.std.specs.Prelude.{◌+◌, ◌-◌, ◌≤◌, ◌<◌, ◌≡◌, true, cond, List, ◌++◌, length, take};
 ghost use Rattle.std.proofs.Math.Option.{none, some};
 ghost use Rattle.rules.specs.Bytes.{Bytes};
-ghost use Rattle.rules.specs.Model.{Scheme, Authority, full, Cri, elements, absolute, normalPath, limits};
-ghost use Rattle.rules.specs.Meaning.{meaning, saidTexts, saidText, saidOpening};
-ghost use Rattle.rules.specs.Encode.{schemeItem, authorityItem};
+ghost use Rattle.rules.specs.Model.{Scheme, Authority, full, Cri, elements, absolute, normal_path, limits};
+ghost use Rattle.rules.specs.Meaning.{meaning, said_texts, said_text, said_opening};
+ghost use Rattle.rules.specs.Encode.{scheme_item, authority_item};
 ghost use Rattle.rules.specs.Resolve.{or, resolve as resolve·rules};
-ghost use Rattle.rules.specs.Laid.{Between, Headed, Ordered, fragmentStart, tailStart, OpeningLaid, PathLaid, TailLaid, Laid};
-ghost use Rattle.reader.specs.Answers.{slot_of, openingOf, foundOf};
-ghost use Rattle.resolver_parts.specs.Parts.{noBoth, BothIs, frontItems, Ends, RowIs, rowTexts, Small, kept, PathIs, keepsQuery, is_set, takesQuery, furtherOf, TailIs, PartsAre};
+ghost use Rattle.rules.specs.Laid.{Between, Headed, Ordered, fragment_start, tail_start, OpeningLaid, PathLaid, TailLaid, Laid};
+ghost use Rattle.reader.specs.Answers.{slot_of, opening_of, found_of};
+ghost use Rattle.resolver_parts.specs.Parts.{no_both, BothIs, front_items, Ends, RowIs, row_texts, Small, kept, PathIs, keeps_query, is_set, takes_query, further_of, TailIs, PartsAre};
 
 use cbor::Span;
 use cbor_heads::head_length;
@@ -73,7 +73,7 @@ fn nowhere() -> Span
 
 // No bytes of either.
 fn no_both() -> Both
-    ensures { result ≡ noBoth }
+    ensures { result ≡ no_both }
 {
     Both {
         base: nowhere(),
@@ -86,7 +86,7 @@ fn no_both() -> Both
 // Where a fragment starts; the end, where there is none.
 fn fragment_start(end: usize, fragment: Slot) -> usize
     requires { Headed (slot_of fragment) }
-    ensures { result ≡ fragmentStart end (slot_of fragment) }
+    ensures { result ≡ fragment_start end (slot_of fragment) }
 {
     match fragment {
         Slot::Unset => end,
@@ -97,7 +97,7 @@ fn fragment_start(end: usize, fragment: Slot) -> usize
 // Where a query starts, or the null in its place; the end, where nothing follows the path.
 fn tail_start(end: usize, query: Slot, fragment: Slot) -> usize
     requires { Headed (slot_of query) × Headed (slot_of fragment) }
-    ensures { result ≡ tailStart end (slot_of query) (slot_of fragment) }
+    ensures { result ≡ tail_start end (slot_of query) (slot_of fragment) }
 {
     match query {
         Slot::Set { at, count: n } => at - head_length(n as u64),
@@ -112,8 +112,8 @@ fn tail_start(end: usize, query: Slot, fragment: Slot) -> usize
 
 // Each of the two where the reference brings it, else the base's, whose authority stands from a position up to another.
 fn front_at(at: usize, next: usize, opening: OpeningAt) -> Both
-    requires { (1 ≤ at) × (1 ≤ next) × Ordered (openingOf opening) }
-    ensures { (base ref : Bytes) (s : Scheme Bytes) (a : Authority Bytes) → Between base 1 at (schemeItem s) → Between base at next (authorityItem a) → OpeningLaid ref (openingOf opening) → BothIs base ref result (frontItems (saidOpening ref (openingOf opening)) s a) }
+    requires { (1 ≤ at) × (1 ≤ next) × Ordered (opening_of opening) }
+    ensures { (base ref : Bytes) (s : Scheme Bytes) (a : Authority Bytes) → Between base 1 at (scheme_item s) → Between base at next (authority_item a) → OpeningLaid ref (opening_of opening) → BothIs base ref result (front_items (said_opening ref (opening_of opening)) s a) }
 {
     match opening {
         OpeningAt::Discard(_) => Both {
@@ -143,8 +143,8 @@ fn front_at(at: usize, next: usize, opening: OpeningAt) -> Both
 
 // Each of the two where the reference brings it, else the base's.
 fn front(old: OpeningAt, opening: OpeningAt) -> Both
-    requires { Ordered (openingOf old) × Ordered (openingOf opening) }
-    ensures { (base ref : Bytes) (s : Scheme Bytes) (a : Authority Bytes) → saidOpening base (openingOf old) ≡ full (some s) (some a) → OpeningLaid base (openingOf old) → OpeningLaid ref (openingOf opening) → BothIs base ref result (frontItems (saidOpening ref (openingOf opening)) s a) }
+    requires { Ordered (opening_of old) × Ordered (opening_of opening) }
+    ensures { (base ref : Bytes) (s : Scheme Bytes) (a : Authority Bytes) → said_opening base (opening_of old) ≡ full (some s) (some a) → OpeningLaid base (opening_of old) → OpeningLaid ref (opening_of opening) → BothIs base ref result (front_items (said_opening ref (opening_of opening)) s a) }
 {
     match old {
         OpeningAt::Discard(_) => no_both(),
@@ -168,7 +168,7 @@ fn no_row() -> RowSpan
 // The segments of a path, which end at a position.
 fn row_of(path: Slot, end: usize) -> RowSpan
     requires { Ends (slot_of path) end }
-    ensures { (bs : Bytes) → PathLaid bs (slot_of path) end → RowIs bs result (elements (saidTexts bs (slot_of path))) }
+    ensures { (bs : Bytes) → PathLaid bs (slot_of path) end → RowIs bs result (elements (said_texts bs (slot_of path))) }
 {
     match path {
         Slot::Unset => no_row(),
@@ -182,7 +182,7 @@ fn row_of(path: Slot, end: usize) -> RowSpan
 
 // A path of one empty segment becomes no path: no other path has one byte.
 fn normal_row(row: RowSpan) -> RowSpan
-    ensures { (bs : Bytes) (ts : List Bytes) → RowIs bs row ts → RowIs bs result (normalPath ts) }
+    ensures { (bs : Bytes) (ts : List Bytes) → RowIs bs row ts → RowIs bs result (normal_path ts) }
 {
     if row.length < 2 {
         return no_row();
@@ -192,8 +192,8 @@ fn normal_row(row: RowSpan) -> RowSpan
 
 // The segments without the last k, or none if there are fewer.
 fn without_last(s: &[u8], row: RowSpan, k: u64) -> RowSpan
-    requires { RowIs s.now row (rowTexts s.now row) }
-    ensures { RowIs s.now result (take (row.count - k) (rowTexts s.now row)) }
+    requires { RowIs s.now row (row_texts s.now row) }
+    ensures { RowIs s.now result (take (row.count - k) (row_texts s.now row)) }
 {
     if k == 0 {
         return row;
@@ -213,8 +213,8 @@ fn without_last(s: &[u8], row: RowSpan, k: u64) -> RowSpan
 
 // What stays of the base's path.
 fn kept_row(s: &[u8], row: RowSpan, opening: OpeningAt) -> RowSpan
-    requires { RowIs s.now row (rowTexts s.now row) }
-    ensures { RowIs s.now result (kept (openingOf opening) (rowTexts s.now row)) }
+    requires { RowIs s.now row (row_texts s.now row) }
+    ensures { RowIs s.now result (kept (opening_of opening) (row_texts s.now row)) }
 {
     match opening {
         OpeningAt::Discard(k) => without_last(s, row, k),
@@ -226,7 +226,7 @@ fn kept_row(s: &[u8], row: RowSpan, opening: OpeningAt) -> RowSpan
 // What stays of the base's path, and then the reference's; one empty segment is no path.
 fn joined(old: RowSpan, new: RowSpan) -> Path
     requires { Small old × Small new }
-    ensures { (base ref : Bytes) (ts us : List Bytes) → RowIs base old ts → RowIs ref new us → PathIs base ref result (normalPath (ts ++ us)) }
+    ensures { (base ref : Bytes) (ts us : List Bytes) → RowIs base old ts → RowIs ref new us → PathIs base ref result (normal_path (ts ++ us)) }
 {
     if old.length + new.length < 2 {
         return Path {
@@ -262,7 +262,7 @@ fn is_set(slot: Slot) -> bool
 
 // Whether the base's query stays: nothing is discarded, and no path is set.
 fn keeps_query(opening: OpeningAt, path: Slot) -> bool
-    ensures { result ≡ keepsQuery (openingOf opening) (slot_of path) }
+    ensures { result ≡ keeps_query (opening_of opening) (slot_of path) }
 {
     match opening {
         OpeningAt::Discard(k) => {
@@ -281,7 +281,7 @@ fn keeps_query(opening: OpeningAt, path: Slot) -> bool
 
 // Whether the result has the base's query.
 fn takes_query(old: Slot, opening: OpeningAt, path: Slot, query: Slot) -> bool
-    ensures { result ≡ takesQuery (slot_of old) (openingOf opening) (slot_of path) (slot_of query) }
+    ensures { result ≡ takes_query (slot_of old) (opening_of opening) (slot_of path) (slot_of query) }
 {
     if is_set(query) {
         return false;
@@ -294,7 +294,7 @@ fn takes_query(old: Slot, opening: OpeningAt, path: Slot, query: Slot) -> bool
 
 // How many items they are, where there is a query or none.
 fn count_further(query: bool, fragment: Slot) -> usize
-    ensures { result ≡ furtherOf query (slot_of fragment) }
+    ensures { result ≡ further_of query (slot_of fragment) }
 {
     match fragment {
         Slot::Set { .. } => 2,
@@ -306,7 +306,7 @@ fn count_further(query: bool, fragment: Slot) -> usize
 fn tail_of(base: &[u8], b: Found, reference: &[u8], r: Found) -> Tail
     requires tail_laid { TailLaid base.now (slot_of b.query) (slot_of b.fragment) }
     requires tail_laid_2 { TailLaid reference.now (slot_of r.query) (slot_of r.fragment) }
-    ensures { TailIs base.now reference.now result (or (saidTexts reference.now (slot_of r.query)) (cond (keepsQuery (openingOf r.opening) (slot_of r.path)) (saidTexts base.now (slot_of b.query)) none)) (saidText reference.now (slot_of r.fragment)) }
+    ensures { TailIs base.now reference.now result (or (said_texts reference.now (slot_of r.query)) (cond (keeps_query (opening_of r.opening) (slot_of r.path)) (said_texts base.now (slot_of b.query)) none)) (said_text reference.now (slot_of r.fragment)) }
 {
     let old = b.query;
     let old_fragment = b.fragment;
@@ -338,9 +338,9 @@ fn tail_of(base: &[u8], b: Found, reference: &[u8], r: Found) -> Tail
 // ---- the whole
 
 fn path_of(base: &[u8], b: Found, reference: &[u8], r: Found) -> Path
-    requires laid { Laid base.now (foundOf b) × (length base.now ≤ limits.bytes) }
-    requires laid_2 { Laid reference.now (foundOf r) × (length reference.now ≤ limits.bytes) }
-    ensures { PathIs base.now reference.now result (normalPath (kept (openingOf r.opening) (normalPath (elements (saidTexts base.now (slot_of b.path)))) ++ elements (saidTexts reference.now (slot_of r.path)))) }
+    requires laid { Laid base.now (found_of b) × (length base.now ≤ limits.bytes) }
+    requires laid_2 { Laid reference.now (found_of r) × (length reference.now ≤ limits.bytes) }
+    ensures { PathIs base.now reference.now result (normal_path (kept (opening_of r.opening) (normal_path (elements (said_texts base.now (slot_of b.path)))) ++ elements (said_texts reference.now (slot_of r.path)))) }
 {
     let old = b.path;
     let old_query = b.query;
@@ -356,9 +356,9 @@ fn path_of(base: &[u8], b: Found, reference: &[u8], r: Found) -> Path
 
 // The parts of the result.
 pub fn parts_of(base: &[u8], b: Found, reference: &[u8], r: Found) -> Parts
-    requires laid { Laid base.now (foundOf b) × (length base.now ≤ limits.bytes) }
-    requires laid_2 { Laid reference.now (foundOf r) × (length reference.now ≤ limits.bytes) }
-    ensures { (c : Cri) → absolute (meaning base.now (foundOf b)) ≡ some c → PartsAre base.now reference.now result (resolve·rules c (meaning reference.now (foundOf r))) }
+    requires laid { Laid base.now (found_of b) × (length base.now ≤ limits.bytes) }
+    requires laid_2 { Laid reference.now (found_of r) × (length reference.now ≤ limits.bytes) }
+    ensures { (c : Cri) → absolute (meaning base.now (found_of b)) ≡ some c → PartsAre base.now reference.now result (resolve·rules c (meaning reference.now (found_of r))) }
 {
     let old = b.opening;
     let opening = r.opening;

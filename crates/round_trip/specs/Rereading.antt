@@ -1,29 +1,29 @@
 -- What reading a reference that was written answers.
 use Rattle.std.specs.Prelude.{ℕ, ◌≡◌, List, length, take}
 use Rattle.rules.specs.Bytes.{Bytes}
-use Rattle.rules.specs.Model.{limits, mapParts}
+use Rattle.rules.specs.Model.{limits, map_parts}
 use Rattle.rules.specs.Reader.{taken}
 use Rattle.rules.specs.Result.{ok}
-use Rattle.rules.specs.Calls.{length_of, outcome, after, readCall, writeCall}
+use Rattle.rules.specs.Calls.{length_of, outcome, after, read_call, write_call}
 use Rattle.refusals.specs.declared.Verdict.TheVariants as VerdictV
 use Rattle.components.specs.declared.Components.{Components}
 use Rattle.components.specs.declared.Reading.{Reading}
-use Rattle.components.specs.Content.{componentsOf}
-use Rattle.components.specs.Layout.{readingLaid, spansAfter}
-use Rattle.outcomes.specs.Answers.{outcomeIs}
+use Rattle.components.specs.Content.{components_of}
+use Rattle.components.specs.Layout.{reading_laid, spans_after}
+use Rattle.outcomes.specs.Answers.{outcome_is}
 use Rattle.round_trip.specs.declared.ReadBack.{ReadBack}
 
 -- demand 2: the bytes w are accepted, and what reading reports of them (RULES 9.5), with the spans ys, has in w the contents that c, with the
 -- spans xs, has in the lent bytes
 pub record SameContents (c : Components) (xs : List ℕ) (lent w : Bytes) (r : Reading) (ys : List ℕ) : Type 0 where
   pub accepted : r.verdict ≡ VerdictV.Accepted
-  pub contents : mapParts (taken w) (componentsOf ys r.components) ≡ mapParts (taken lent) (componentsOf xs c)
+  pub contents : map_parts (taken w) (components_of ys r.components) ≡ map_parts (taken lent) (components_of xs c)
 
 -- any components, spans xs, lent bytes, room, which is left as x, and array for the spans read, which is left as y: what RULES 3.1 and 9 say of
 -- writing; what reading reports (RULES 9.5) of the bytes written, none after a refusal (RULES 3.1); and where writing is done, the same contents
 pub record Rereads (c : Components) (xs : List ℕ) (lent room : Bytes) (found : List ℕ) (r : ReadBack) (x : Bytes) (y : List ℕ) : Type 0 where
-  pub written : outcomeIs r.written ≡ outcome (writeCall limits (componentsOf xs c) lent) (length room)
-  pub left : x ≡ after (writeCall limits (componentsOf xs c) lent) room
-  pub reading : r.reading ≡ readingLaid (readCall limits (take (length_of (outcomeIs r.written)) x))
-  pub spans : y ≡ spansAfter (readCall limits (take (length_of (outcomeIs r.written)) x)) found
-  pub back : (n : ℕ) → outcomeIs r.written ≡ ok n → SameContents c xs lent (take n x) r.reading y
+  pub written : outcome_is r.written ≡ outcome (write_call limits (components_of xs c) lent) (length room)
+  pub left : x ≡ after (write_call limits (components_of xs c) lent) room
+  pub reading : r.reading ≡ reading_laid (read_call limits (take (length_of (outcome_is r.written)) x))
+  pub spans : y ≡ spans_after (read_call limits (take (length_of (outcome_is r.written)) x)) found
+  pub back : (n : ℕ) → outcome_is r.written ≡ ok n → SameContents c xs lent (take n x) r.reading y

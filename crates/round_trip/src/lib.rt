@@ -1,9 +1,9 @@
 // Writing a reference that was read gives its bytes again; reading what was written gives its contents again.
 ghost use Rattle.std.specs.Prelude.{◌≡◌, length};
 ghost use Rattle.rules.specs.Model.{limits};
-ghost use Rattle.rules.specs.Calls.{outcome, after, readCall};
-ghost use Rattle.components.specs.Layout.{spansAfter};
-ghost use Rattle.outcomes.specs.Answers.{outcomeIs};
+ghost use Rattle.rules.specs.Calls.{outcome, after, read_call};
+ghost use Rattle.components.specs.Layout.{spans_after};
+ghost use Rattle.outcomes.specs.Answers.{outcome_is};
 ghost use Rattle.round_trip.specs.Again.{again};
 ghost use Rattle.round_trip.specs.Rereading.{Rereads};
 
@@ -19,9 +19,9 @@ pub struct ReadBack {
 // Reads s, and writes the components that reading reports, with s as the lent bytes, into the room: the refusal that reading has for s;
 // or s again, every byte of it; 10 where the room is shorter than s. The spans are as reading leaves them.
 pub fn rewrite(s: &[u8], spans: &mut Spans, room: &mut [u8]) -> Outcome
-    ensures result_value { outcomeIs result ≡ outcome (again limits s.now) (length room.old) }
+    ensures result_value { outcome_is result ≡ outcome (again limits s.now) (length room.old) }
     ensures room_after { room.new ≡ after (again limits s.now) room.old }
-    ensures spans_after { spans.new ≡ spansAfter (readCall limits s.now) spans.old }
+    ensures spans_after { spans.new ≡ spans_after (read_call limits s.now) spans.old }
 {
     let reading = cri::read(s, spans);
     let verdict = reading.verdict;

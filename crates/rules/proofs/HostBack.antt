@@ -4,76 +4,76 @@ use mathlib.Core.Bool.{Bool, true, false, cond}
 use mathlib.Core.List.{List, [], ◌∷◌, map}
 use Rattle.rules.specs.Bytes.{Bytes, Each, dot, same, filled, starts, split, join}
 use Rattle.rules.specs.Model.{Host, address, labels}
-use Rattle.rules.specs.Rules.{labelByte, labelRule, label}
+use Rattle.rules.specs.Rules.{label_byte, label_rule, label}
 use Rattle.rules.specs.Valid.{Good, GoodHost}
-use Rattle.rules.specs.Numeral.{digitByte, decimal}
-use Rattle.rules.specs.Address.{ipv4Text, leftBracket, addressText}
-use Rattle.rules.specs.ReadAddress.{addressBytes}
-use Rattle.rules.specs.Options.{CoapOption, option, uriHost}
-use Rattle.rules.proofs.Tools.{never, by-test, All, each_map, each_all}
-use Rattle.rules.proofs.Escapes.{lacks, all-lacks, Free, starts-free, free, split-join, join-all}
-use Rattle.rules.proofs.Numerals.{decimals-all}
-use Rattle.rules.proofs.Addresses.{by_size, address-back}
-use Rattle.rules.proofs.UnText.{unHost}
-use Rattle.rules.proofs.TextBack.{fill-some, counted-filled, decimals-host, decimals-some, labels-host}
+use Rattle.rules.specs.Numeral.{digit_byte, decimal}
+use Rattle.rules.specs.Address.{ipv4_text, left_bracket, address_text}
+use Rattle.rules.specs.ReadAddress.{address_bytes}
+use Rattle.rules.specs.Options.{CoapOption, option, uri_host}
+use Rattle.rules.proofs.Tools.{never, by_test, All, each_map, each_all}
+use Rattle.rules.proofs.Escapes.{lacks, all_lacks, Free, starts_free, free, split_join, join_all}
+use Rattle.rules.proofs.Numerals.{decimals_all}
+use Rattle.rules.proofs.Addresses.{by_size, address_back}
+use Rattle.rules.proofs.UnText.{un_host}
+use Rattle.rules.proofs.TextBack.{fill_some, counted_filled, decimals_host, decimals_some, labels_host_lem}
 
 -- RULES 7.1: what Uri-Host has
-abbrev hostValue : Host Bytes → Bytes
-hostValue (labels ls) = join dot ls
-hostValue (address a) = addressText a
+abbrev host_value : Host Bytes → Bytes
+host_value (labels ls) = join dot ls
+host_value (address a) = address_text a
 
 -- the host that a value says
-unfoldable unValue : Bytes → Host Bytes
-unValue t = cond (starts leftBracket t) (address (addressBytes t)) (unHost (split dot t))
+unfoldable un_value : Bytes → Host Bytes
+un_value t = cond (starts left_bracket t) (address (address_bytes t)) (un_host (split dot t))
 
 -- what no label holds
 abbrev lack : Bytes
-lack = dot ∷ leftBracket ∷ []
+lack = dot ∷ left_bracket ∷ []
 
 -- labels, and the four decimals of an IPv4 address
-name-value : (ls : List Bytes) → filled ls ≡ true → Each (All (lacks lack)) ls → unValue (join dot ls) ≡ unHost ls
-unfolding unValue
-name-value ls few h =
+name_value : (ls : List Bytes) → filled ls ≡ true → Each (All (lacks lack)) ls → un_value (join dot ls) ≡ un_host ls
+unfolding un_value
+name_value ls few h =
     let dots : Each (Free dot) ls = each_map (free (lacks lack) dot refl) ls h in
-    let bare : All (lacks (leftBracket ∷ [])) (join dot ls) =
-    join-all (lacks (leftBracket ∷ [])) dot refl ls (each_map (all-lacks (lacks lack) (leftBracket ∷ []) refl) ls h) in
-    rw (starts-free leftBracket (join dot ls) (free (lacks (leftBracket ∷ [])) leftBracket refl (join dot ls) bare), split-join dot ls dots, fill-some ls few)
+    let bare : All (lacks (left_bracket ∷ [])) (join dot ls) =
+    join_all (lacks (left_bracket ∷ [])) dot refl ls (each_map (all_lacks (lacks lack) (left_bracket ∷ []) refl) ls h) in
+    rw (starts_free left_bracket (join dot ls) (free (lacks (left_bracket ∷ [])) left_bracket refl (join dot ls) bare), split_join dot ls dots, fill_some ls few)
 
-labels-lack : (ls : List Bytes) → Each (Good label) ls → Each (All (lacks lack)) ls
-unfolding labelRule labelByte
-labels-lack [] g = tt
-labels-lack (l ∷ ls) g = (all-lacks labelByte lack refl l (each_all labelByte l g.0.rule), labels-lack ls g.1)
+labels_lack : (ls : List Bytes) → Each (Good label) ls → Each (All (lacks lack)) ls
+unfolding label_rule label_byte
+labels_lack [] g = tt
+labels_lack (l ∷ ls) g = (all_lacks label_byte lack refl l (each_all label_byte l g.0.rule), labels_lack ls g.1)
 
-value-back : (h : Host Bytes) → GoodHost h → unValue (hostValue h) ≡ h
-unfolding unValue ipv4Text digitByte
-value-back (labels ls) g =
-    name-value ls (counted-filled 8 ls g.texts.count) (labels-lack ls g.texts.each) ∙ labels-host ls g.name
-value-back (address bs) g =
-    by_size (λ t. addressBytes t ≡ bs → unValue t ≡ address bs) bs g
-    (λ e _. name-value (map decimal bs) (decimals-some bs e) (decimals-all (lacks lack) refl bs) ∙ decimals-host bs e g.octets)
+value_back : (h : Host Bytes) → GoodHost h → un_value (host_value h) ≡ h
+unfolding un_value ipv4_text digit_byte
+value_back (labels ls) g =
+    name_value ls (counted_filled 8 ls g.texts.count) (labels_lack ls g.texts.each) ∙ labels_host_lem ls g.name
+value_back (address bs) g =
+    by_size (λ t. address_bytes t ≡ bs → un_value t ≡ address bs) bs g
+    (λ e _. name_value (map decimal bs) (decimals_some bs e) (decimals_all (lacks lack) refl bs) ∙ decimals_host bs e g.octets)
     (λ e back. ap address back)
-    (address-back bs g)
+    (address_back bs g)
 
 -- the value of the first option
-abbrev valueIn : List CoapOption → Bytes
-valueIn [] = []
-valueIn (o ∷ os) = o.value
+abbrev value_in : List CoapOption → Bytes
+value_in [] = []
+value_in (o ∷ os) = o.value
 
-value-of : (h : Host Bytes) (toAddress v : Bytes) → uriHost h toAddress ≡ option 3 v ∷ [] → hostValue h ≡ v
-unfolding uriHost
-value-of (labels ls) toAddress v e = ap valueIn e
-value-of (address a) toAddress v e =
-    by-test (λ t. cond t [] (option 3 (addressText a) ∷ []) ≡ option 3 v ∷ [] → addressText a ≡ v) (same a toAddress)
-    (λ _ e. absurd (no-option v e)) (λ _ e. ap valueIn e) e
+value_of_lem : (h : Host Bytes) (toAddress v : Bytes) → uri_host h toAddress ≡ option 3 v ∷ [] → host_value h ≡ v
+unfolding uri_host
+value_of_lem (labels ls) toAddress v e = ap value_in e
+value_of_lem (address a) toAddress v e =
+    by_test (λ t. cond t [] (option 3 (address_text a) ∷ []) ≡ option 3 v ∷ [] → address_text a ≡ v) (same a toAddress)
+    (λ _ e. absurd (no_option v e)) (λ _ e. ap value_in e) e
   where
-    no-option : (v : Bytes) → ◌≡◌ {A = List CoapOption} [] (option 3 v ∷ []) → ⊥
-    no-option v e = never (ap is_none e)
+    no_option : (v : Bytes) → ◌≡◌ {A = List CoapOption} [] (option 3 v ∷ []) → ⊥
+    no_option v e = never (ap is_none e)
       where
         is_none : List CoapOption → Bool
         is_none [] = false
         is_none (o ∷ os) = true
 
-pub host-determined : (h k : Host Bytes) (toAddress v : Bytes) → GoodHost h → GoodHost k → uriHost h toAddress ≡ option 3 v ∷ []
-    → uriHost k toAddress ≡ option 3 v ∷ [] → h ≡ k
-host-determined h k toAddress v g f d e =
-    sym (value-back h g) ∙ ap unValue (value-of h toAddress v d ∙ sym (value-of k toAddress v e)) ∙ value-back k f
+pub host_determined : (h k : Host Bytes) (toAddress v : Bytes) → GoodHost h → GoodHost k → uri_host h toAddress ≡ option 3 v ∷ []
+    → uri_host k toAddress ≡ option 3 v ∷ [] → h ≡ k
+host_determined h k toAddress v g f d e =
+    sym (value_back h g) ∙ ap un_value (value_of_lem h toAddress v d ∙ sym (value_of_lem k toAddress v e)) ∙ value_back k f

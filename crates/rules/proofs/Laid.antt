@@ -8,25 +8,25 @@ use mathlib.Core.Option.{none}
 use lib.ListN.{length, drop, length-drop, length-append, length-map}
 use lib.Dec.{eqb}
 use borrow.Author.Tests.{leb-true, lt-ltb}
-use Rattle.rules.specs.Bytes.{Bytes, Octets, part, concat, bigEndian}
+use Rattle.rules.specs.Bytes.{Bytes, Octets, part, concat, big_endian}
 use Rattle.rules.specs.Result.{Res}
 use Rattle.rules.specs.Model.{Limits}
-use Rattle.rules.specs.Head.{Kind, Number, Negative, ByteString, Text, Array, True, Null, Other, Head, kind_at, headAt, headBytes, shortest, width, headLength}
-use Rattle.rules.specs.Rules.{Sort, segment, parameter, fragmentText, schemeName}
-use Rattle.rules.specs.Reader.{end_at, contents, readRow, Slot, unset, set, nullBody, arrayBody, readArray, fragmentBody, readFragment, addressHost, labelsHost, readAuthority, SchemeAt, OpeningAt, discardAt, discardAllAt, fullAt, opens, afterScheme, openingBody, readOpening, read, contentAt}
-use Rattle.rules.specs.Meaning.{saidScheme, saidOpening}
-use Rattle.rules.specs.Encode.{textItem, arrayItem, textsItem, nullItem, or_null, schemeItem}
-use Rattle.rules.specs.Resolve.{asBase}
-use Rattle.rules.specs.Views.{Piece, ofReference, ofBase, authoritySpan, chosen, authorityView}
+use Rattle.rules.specs.Head.{Kind, Number, Negative, ByteString, Text, Array, True, Null, Other, Head, kind_at, head_at, head_bytes, shortest, width, head_length}
+use Rattle.rules.specs.Rules.{Sort, segment, parameter, fragment_text, scheme_name}
+use Rattle.rules.specs.Reader.{end_at, contents, read_row, Slot, unset, set, null_body, array_body, read_array, fragment_body, read_fragment, address_host, labels_host, read_authority, SchemeAt, OpeningAt, discard_at, discard_all_at, full_at, opens, after_scheme, opening_body, read_opening, read, content_at}
+use Rattle.rules.specs.Meaning.{said_scheme, said_opening}
+use Rattle.rules.specs.Encode.{text_item, array_item, texts_item, null_item, or_null, scheme_item}
+use Rattle.rules.specs.Resolve.{as_base}
+use Rattle.rules.specs.Views.{Piece, of_reference, of_base, authority_span, chosen, authority_view}
 use Rattle.rules.specs.Standing.{RowAt}
-use Rattle.rules.specs.Laid.{Between, texts, TextsLaid, tailStart, TailLaid, OpeningLaid, Ordered, PathLaid, Laid}
+use Rattle.rules.specs.Laid.{Between, texts, TextsLaid, tail_start, TailLaid, OpeningLaid, Ordered, PathLaid, Laid}
 use Rattle.rules.proofs.Tools.{never, or_left}
-use Rattle.rules.proofs.Steps.{Ok, no!, ok!, ok-any, ok-both, ok-bind, ok-then, ok-map, ok-need, ok-if}
-use Rattle.rules.proofs.Heads.{is-kind, Known, Stands, ok-head, head-spells, next-inside}
-use Rattle.rules.proofs.Texts.{TextAt, TextsAt, ok-textBody, ok-text, ok-texts, length-contents}
-use Rattle.rules.proofs.Slots.{null-spells}
-use Rattle.rules.proofs.Authorities.{ok-authority}
-use Rattle.rules.proofs.Openings.{openItems, ok-opening, opens-left}
+use Rattle.rules.proofs.Steps.{Ok, no!, ok!, ok_any, ok_both, ok_bind, ok_then, ok_map, ok_need, ok_if}
+use Rattle.rules.proofs.Heads.{is_kind, Known, Stands, ok_head, head_spells, next_inside}
+use Rattle.rules.proofs.Texts.{TextAt, TextsAt, ok_text_body, ok_text, ok_texts, length_contents}
+use Rattle.rules.proofs.Slots.{null_spells}
+use Rattle.rules.proofs.Authorities.{ok_authority}
+use Rattle.rules.proofs.Openings.{open_items, ok_opening, opens_left}
 
 -- ---- bytes between two positions
 
@@ -37,43 +37,43 @@ between {bs} {w} {from} {to} h k e =
 pub between_none : {bs : Bytes} {at : ℕ} → at ≤ length bs → Between bs at at []
 between_none h = record { bytes = refl; ends = omega arith; inside = h }
 
-pub between-then : {bs v w : Bytes} {i j k : ℕ} → Between bs i j v → Between bs j k w → Between bs i k (v ++ w)
-between-then {bs} {v} {w} {i} {j} {k} p q = record {
+pub between_then : {bs v w : Bytes} {i j k : ℕ} → Between bs i j v → Between bs j k w → Between bs i k (v ++ w)
+between_then {bs} {v} {w} {i} {j} {k} p q = record {
   bytes = p.bytes ∙ ap (λ (l : Bytes). v ++ l) q.bytes ∙ sym (append_assoc v w (drop k bs));
   ends = omega (arith, length-append v w, p.ends, q.ends);
   inside = q.inside;
 }
 
 -- the same bytes, said in another way
-pub between-as : {bs v w : Bytes} {i j : ℕ} → v ≡ w → Between bs i j v → Between bs i j w
-between-as {bs} {i = i} {j = j} e p = subst (λ (w : Bytes). Between bs i j w) e p
+pub between_as : {bs v w : Bytes} {i j : ℕ} → v ≡ w → Between bs i j v → Between bs i j w
+between_as {bs} {i = i} {j = j} e p = subst (λ (w : Bytes). Between bs i j w) e p
 
 -- the same positions
-pub between-at : {bs w : Bytes} {i j i' j' : ℕ} → i ≡ i' → j ≡ j' → Between bs i j w → Between bs i' j' w
-between-at {bs} {w} {i} {j} {i'} {j'} d e p = subst (λ (k : ℕ). Between bs k j' w) d (subst (λ (k : ℕ). Between bs i k w) e p)
+pub between_at : {bs w : Bytes} {i j i' j' : ℕ} → i ≡ i' → j ≡ j' → Between bs i j w → Between bs i' j' w
+between_at {bs} {w} {i} {j} {i'} {j'} d e p = subst (λ (k : ℕ). Between bs k j' w) d (subst (λ (k : ℕ). Between bs i k w) e p)
 
 -- ---- heads
 
-pub head-length : (k : Kind) (v : ℕ) → length (headBytes k v) ≡ headLength v
-unfolding headBytes
-head-length k v = refl
+pub head_length_lem : (k : Kind) (v : ℕ) → length (head_bytes k v) ≡ head_length v
+unfolding head_bytes
+head_length_lem k v = refl
 
-head-between : {allowed : Kind → Bool} (bs : Bytes) (at : ℕ) → Octets bs → Stands allowed bs at → (k : Kind) → Known k → kind_at bs at ≡ k
-    → Between bs at (headAt bs at).next (headBytes k (headAt bs at).value)
-head-between bs at sm r k n e = between (omega (arith, r.inside)) (next-inside bs at r) (head-spells bs at sm r k n e)
+head_between : {allowed : Kind → Bool} (bs : Bytes) (at : ℕ) → Octets bs → Stands allowed bs at → (k : Kind) → Known k → kind_at bs at ≡ k
+    → Between bs at (head_at bs at).next (head_bytes k (head_at bs at).value)
+head_between bs at sm r k n e = between (omega (arith, r.inside)) (next_inside bs at r) (head_spells bs at sm r k n e)
 
 -- ---- texts in a row
 
-pub laid-items : (bs : Bytes) (at n : ℕ) → TextsLaid bs at n → RowAt bs at n
-laid-items bs at zero h = tt
-laid-items bs at (suc n) h = (h.0.stands, laid-items bs (end_at bs at) n h.1)
+pub laid_items : (bs : Bytes) (at n : ℕ) → TextsLaid bs at n → RowAt bs at n
+laid_items bs at zero h = tt
+laid_items bs at (suc n) h = (h.0.stands, laid_items bs (end_at bs at) n h.1)
 
-texts-laid : (s : Sort) (bs : Bytes) (at n : ℕ) → Octets bs → Ok (λ next. TextsLaid bs at n) (readRow s bs at n)
-unfolding readRow headAt
-texts-laid s bs at zero sm = ok! tt
-texts-laid s bs at (suc n) sm =
-    ok-bind _ _ (ok-text s bs at sm) (λ mid t. ok-map (texts-laid s bs mid n sm) (λ next r. (
-      record { stands = t.stands; bytes = between (omega (arith, t.stands.inside)) t.stands.inside (t.spells ∙ ap (λ (m : ℕ). textItem (contentAt bs at) ++ drop m bs) t.ends) },
+texts_laid_lem : (s : Sort) (bs : Bytes) (at n : ℕ) → Octets bs → Ok (λ next. TextsLaid bs at n) (read_row s bs at n)
+unfolding read_row head_at
+texts_laid_lem s bs at zero sm = ok! tt
+texts_laid_lem s bs at (suc n) sm =
+    ok_bind _ _ (ok_text s bs at sm) (λ mid t. ok_map (texts_laid_lem s bs mid n sm) (λ next r. (
+      record { stands = t.stands; bytes = between (omega (arith, t.stands.inside)) t.stands.inside (t.spells ∙ ap (λ (m : ℕ). text_item (content_at bs at) ++ drop m bs) t.ends) },
       subst (λ (m : ℕ). TextsLaid bs m n) t.ends r,
     )))
 
@@ -81,20 +81,20 @@ texts-laid s bs at (suc n) sm =
 
 -- left off, or null
 data Unset (bs : Bytes) (at left next : ℕ) : Type 0 where
-  left-off : left ≡ 0 → next ≡ at → Unset bs at left next
-  null : 2 ≤ left → Between bs at next nullItem → Unset bs at left next
+  left_off : left ≡ 0 → next ≡ at → Unset bs at left next
+  null : 2 ≤ left → Between bs at next null_item → Unset bs at left next
 
 record SetTexts (bs : Bytes) (at left first n next : ℕ) : Type 0 where
   pub there : 1 ≤ left
-  pub start : at + headLength n ≡ first
+  pub start : at + head_length n ≡ first
   pub each : TextsLaid bs first n
   pub row : Between bs first next (texts (contents bs first n))
-  pub item : Between bs at next (textsItem (contents bs first n))
+  pub item : Between bs at next (texts_item (contents bs first n))
 
 record SetText (bs : Bytes) (at left first n next : ℕ) : Type 0 where
   pub there : 1 ≤ left
-  pub start : at + headLength n ≡ first
-  pub item : Between bs at next (textItem (part bs first n))
+  pub start : at + head_length n ≡ first
+  pub item : Between bs at next (text_item (part bs first n))
 
 abbrev ArrayLaid : Bytes → ℕ → ℕ → Slot → ℕ → Type 0
 ArrayLaid bs at left unset next = Unset bs at left next
@@ -104,105 +104,105 @@ abbrev FragmentLaid : Bytes → ℕ → ℕ → Slot → ℕ → Type 0
 FragmentLaid bs at left unset next = Unset bs at left next
 FragmentLaid bs at left (set first n) next = SetText bs at left first n next
 
-null-laid : {allowed : Kind → Bool} (bs : Bytes) (at left : ℕ) → Octets bs → Stands allowed bs at → kind_at bs at ≡ Null → not (eqb left 0) ≡ true
-    → Unset bs at (suc left) (headAt bs at).next
-null-laid bs at zero sm r e t = never t
-null-laid bs at (suc left) sm r e t = null (omega arith) (between (omega (arith, r.inside)) (next-inside bs at r) (null-spells bs at sm r e))
+null_laid : {allowed : Kind → Bool} (bs : Bytes) (at left : ℕ) → Octets bs → Stands allowed bs at → kind_at bs at ≡ Null → not (eqb left 0) ≡ true
+    → Unset bs at (suc left) (head_at bs at).next
+null_laid bs at zero sm r e t = never t
+null_laid bs at (suc left) sm r e t = null (omega arith) (between (omega (arith, r.inside)) (next_inside bs at r) (null_spells bs at sm r e))
 
-set-texts : {allowed : Kind → Bool} (s : Sort) (bs : Bytes) (at left next : ℕ) → Octets bs → Stands allowed bs at → kind_at bs at ≡ Array
-    → TextsAt s bs (headAt bs at).next (headAt bs at).value next → TextsLaid bs (headAt bs at).next (headAt bs at).value
-    → SetTexts bs at (suc left) (headAt bs at).next (headAt bs at).value next
-unfolding textsItem arrayItem
-set-texts s bs at left next sm r e t each =
-    let h : Head = headAt bs at in
+set_texts : {allowed : Kind → Bool} (s : Sort) (bs : Bytes) (at left next : ℕ) → Octets bs → Stands allowed bs at → kind_at bs at ≡ Array
+    → TextsAt s bs (head_at bs at).next (head_at bs at).value next → TextsLaid bs (head_at bs at).next (head_at bs at).value
+    → SetTexts bs at (suc left) (head_at bs at).next (head_at bs at).value next
+unfolding texts_item array_item
+set_texts s bs at left next sm r e t each =
+    let h : Head = head_at bs at in
     let ts : List Bytes = contents bs h.next h.value in
-    let b = head-between bs at sm r Array tt e in
+    let b = head_between bs at sm r Array tt e in
     let row : Between bs h.next next (texts ts) = between b.inside (t.inside b.inside) t.spells in
     record {
       there = omega arith;
-      start = omega (arith, b.ends, head-length Array h.value);
+      start = omega (arith, b.ends, head_length_lem Array h.value);
       each = each;
       row = row;
-      item = between-as (ap (λ (v : ℕ). headBytes Array v ++ texts ts) (sym (length-map ts textItem ∙ length-contents bs h.next h.value))) (between-then b row);
+      item = between_as (ap (λ (v : ℕ). head_bytes Array v ++ texts ts) (sym (length-map ts text_item ∙ length_contents bs h.next h.value))) (between_then b row);
     }
 
-array-laid : (s : Sort) (low high : ℕ) (bs : Bytes) (at left : ℕ) → Octets bs → Ok (λ p. ArrayLaid bs at left p.slot p.next) (readArray s low high bs at left)
-unfolding readArray nullBody arrayBody headAt
-array-laid s low high bs at zero sm = ok! (left-off refl refl)
-array-laid s low high bs at (suc left) sm =
-    let h : Head = headAt bs at in
-    ok-head _ _ _ _ (λ r. ok-if _ _ _
-    (λ y. ok-need _ _ _ _ (λ t. ok! (null-laid bs at left sm r (is-kind Null _ y) t)))
-    (λ n. ok-need _ _ _ _ (λ w. ok-bind _ _ (ok-both (ok-texts s bs h.next h.value sm) (texts-laid s bs h.next h.value sm)) (λ next t.
-    ok! (set-texts s bs at left next sm r (is-kind Array _ (or_left _ _ r.kind n)) t.0 t.1)))))
+array_laid : (s : Sort) (low high : ℕ) (bs : Bytes) (at left : ℕ) → Octets bs → Ok (λ p. ArrayLaid bs at left p.slot p.next) (read_array s low high bs at left)
+unfolding read_array null_body array_body head_at
+array_laid s low high bs at zero sm = ok! (left_off refl refl)
+array_laid s low high bs at (suc left) sm =
+    let h : Head = head_at bs at in
+    ok_head _ _ _ _ (λ r. ok_if _ _ _
+    (λ y. ok_need _ _ _ _ (λ t. ok! (null_laid bs at left sm r (is_kind Null _ y) t)))
+    (λ n. ok_need _ _ _ _ (λ w. ok_bind _ _ (ok_both (ok_texts s bs h.next h.value sm) (texts_laid_lem s bs h.next h.value sm)) (λ next t.
+    ok! (set_texts s bs at left next sm r (is_kind Array _ (or_left _ _ r.kind n)) t.0 t.1)))))
 
-set-text : {allowed : Kind → Bool} (s : Sort) (bs : Bytes) (at left next : ℕ) → Octets bs → Stands allowed bs at → kind_at bs at ≡ Text
-    → TextAt s bs at next → SetText bs at (suc left) (headAt bs at).next (headAt bs at).value next
-set-text s bs at left next sm r e t =
+set_text : {allowed : Kind → Bool} (s : Sort) (bs : Bytes) (at left next : ℕ) → Octets bs → Stands allowed bs at → kind_at bs at ≡ Text
+    → TextAt s bs at next → SetText bs at (suc left) (head_at bs at).next (head_at bs at).value next
+set_text s bs at left next sm r e t =
     record {
       there = omega arith;
-      start = (head-between bs at sm r Text tt e).ends;
+      start = (head_between bs at sm r Text tt e).ends;
       item = between (omega (arith, r.inside)) (omega (arith, t.ends, t.stands.inside)) t.spells;
     }
 
-fragment-laid : (bs : Bytes) (at left : ℕ) → Octets bs → Ok (λ p. FragmentLaid bs at left p.slot p.next) (readFragment bs at left)
-unfolding readFragment nullBody fragmentBody headAt
-fragment-laid bs at zero sm = ok! (left-off refl refl)
-fragment-laid bs at (suc left) sm =
-    ok-head _ _ _ _ (λ r. ok-if _ _ _
-    (λ y. ok-need _ _ _ _ (λ t. ok! (null-laid bs at left sm r (is-kind Null _ y) t)))
-    (λ n. ok-bind _ _ (ok-textBody fragmentText bs at sm r (is-kind Text _ (or_left _ _ r.kind n))) (λ next t.
-    ok! (set-text fragmentText bs at left next sm r (is-kind Text _ (or_left _ _ r.kind n)) t))))
+fragment_laid_lem : (bs : Bytes) (at left : ℕ) → Octets bs → Ok (λ p. FragmentLaid bs at left p.slot p.next) (read_fragment bs at left)
+unfolding read_fragment null_body fragment_body head_at
+fragment_laid_lem bs at zero sm = ok! (left_off refl refl)
+fragment_laid_lem bs at (suc left) sm =
+    ok_head _ _ _ _ (λ r. ok_if _ _ _
+    (λ y. ok_need _ _ _ _ (λ t. ok! (null_laid bs at left sm r (is_kind Null _ y) t)))
+    (λ n. ok_bind _ _ (ok_text_body fragment_text bs at sm r (is_kind Text _ (or_left _ _ r.kind n))) (λ next t.
+    ok! (set_text fragment_text bs at left next sm r (is_kind Text _ (or_left _ _ r.kind n)) t))))
 
 -- ---- query and fragment together
 
 -- query and fragment start at a position
 pub record TailAt (bs : Bytes) (at : ℕ) (q f : Slot) : Type 0 where
   pub laid : TailLaid bs q f
-  pub start : tailStart (length bs) q f ≡ at
+  pub start : tail_start (length bs) q f ≡ at
 
-tail-laid : (bs : Bytes) (at left : ℕ) (q : Slot) (mid : ℕ) (f : Slot) (end : ℕ) → 1 ≤ at → left ≤ 3 → ArrayLaid bs at (left - 1) q mid → FragmentLaid bs mid (left - 2) f end
+tail_laid : (bs : Bytes) (at left : ℕ) (q : Slot) (mid : ℕ) (f : Slot) (end : ℕ) → 1 ≤ at → left ≤ 3 → ArrayLaid bs at (left - 1) q mid → FragmentLaid bs mid (left - 2) f end
     → end ≡ length bs → TailAt bs at q f
-tail-laid bs at left unset mid unset end h few (left-off a b) (left-off c d) e =
+tail_laid bs at left unset mid unset end h few (left_off a b) (left_off c d) e =
     let start : length bs ≡ at = omega arith in
-    record { laid = record { query = between_none (omega arith); fragment = between_none (omega arith); queryHead = tt; fragmentHead = tt }; start = start }
-tail-laid bs at left unset mid unset end h few (left-off a b) (null c d) e = absurd (omega arith)
-tail-laid bs at left unset mid unset end h few (null a b) (left-off c d) e = absurd (omega arith)
-tail-laid bs at left unset mid unset end h few (null a b) (null c d) e = absurd (omega arith)
-tail-laid bs at left unset mid (set f n) end h few (left-off a b) t e = absurd (omega (arith, t.there))
-tail-laid bs at left unset mid (set f n) end h few (null a b) t e =
-    let m : mid ≡ f - headLength n = omega (arith, t.start) in
-    let s : at ≡ f - headLength n - 1 = omega (arith, t.start, b.ends) in
+    record { laid = record { query = between_none (omega arith); fragment = between_none (omega arith); query_head = tt; fragment_head = tt }; start = start }
+tail_laid bs at left unset mid unset end h few (left_off a b) (null c d) e = absurd (omega arith)
+tail_laid bs at left unset mid unset end h few (null a b) (left_off c d) e = absurd (omega arith)
+tail_laid bs at left unset mid unset end h few (null a b) (null c d) e = absurd (omega arith)
+tail_laid bs at left unset mid (set f n) end h few (left_off a b) t e = absurd (omega (arith, t.there))
+tail_laid bs at left unset mid (set f n) end h few (null a b) t e =
+    let m : mid ≡ f - head_length n = omega (arith, t.start) in
+    let s : at ≡ f - head_length n - 1 = omega (arith, t.start, b.ends) in
     record {
       laid = record {
-        query = between-at s m b;
-        fragment = between-at m e t.item;
-        queryHead = tt;
-        fragmentHead = omega (arith, t.start, b.ends);
+        query = between_at s m b;
+        fragment = between_at m e t.item;
+        query_head = tt;
+        fragment_head = omega (arith, t.start, b.ends);
       };
       start = sym s;
     }
-tail-laid bs at left (set q k) mid unset end h few p (null c d) e = absurd (omega arith)
-tail-laid bs at left (set q k) mid unset end h few p (left-off c d) e =
-    let s : at ≡ q - headLength k = omega (arith, p.start) in
+tail_laid bs at left (set q k) mid unset end h few p (null c d) e = absurd (omega arith)
+tail_laid bs at left (set q k) mid unset end h few p (left_off c d) e =
+    let s : at ≡ q - head_length k = omega (arith, p.start) in
     record {
       laid = record {
-        query = between-at s (omega arith) p.item;
+        query = between_at s (omega arith) p.item;
         fragment = between_none (omega arith);
-        queryHead = omega (arith, p.start);
-        fragmentHead = tt;
+        query_head = omega (arith, p.start);
+        fragment_head = tt;
       };
       start = sym s;
     }
-tail-laid bs at left (set q k) mid (set f n) end h few p t e =
-    let s : at ≡ q - headLength k = omega (arith, p.start) in
-    let m : mid ≡ f - headLength n = omega (arith, t.start) in
+tail_laid bs at left (set q k) mid (set f n) end h few p t e =
+    let s : at ≡ q - head_length k = omega (arith, p.start) in
+    let m : mid ≡ f - head_length n = omega (arith, t.start) in
     record {
       laid = record {
-        query = between-at s m p.item;
-        fragment = between-at m e t.item;
-        queryHead = omega (arith, p.start);
-        fragmentHead = omega (arith, t.start, p.item.ends);
+        query = between_at s m p.item;
+        fragment = between_at m e t.item;
+        query_head = omega (arith, p.start);
+        fragment_head = omega (arith, t.start, p.item.ends);
       };
       start = sym s;
     }
@@ -210,47 +210,47 @@ tail-laid bs at left (set q k) mid (set f n) end h few p t e =
 -- ---- the opening, after the outer array's head
 
 -- an authority stands where it was looked for
-authority-at : (bs : Bytes) (at : ℕ) → Ok (λ a. a.at ≡ at) (readAuthority bs at)
-unfolding readAuthority addressHost labelsHost
-authority-at bs at =
-    ok-bind _ _ (ok-any _) (λ a _. ok-need _ _ _ _ (λ w. ok-bind _ _ (ok-any _) (λ h _. ok-if _ _ _
-    (λ y. ok-bind _ _ (ok-any _) (λ next _. ok-bind _ _ (ok-any _) (λ p _. ok-need _ _ _ _ (λ r. ok! refl))))
-    (λ n. ok-need _ _ _ _ (λ l. ok-bind _ _ (ok-any _) (λ c _. ok-bind _ _ (ok-any _) (λ p _. ok! refl)))))))
+authority_at : (bs : Bytes) (at : ℕ) → Ok (λ a. a.at ≡ at) (read_authority bs at)
+unfolding read_authority address_host labels_host
+authority_at bs at =
+    ok_bind _ _ (ok_any _) (λ a _. ok_need _ _ _ _ (λ w. ok_bind _ _ (ok_any _) (λ h _. ok_if _ _ _
+    (λ y. ok_bind _ _ (ok_any _) (λ next _. ok_bind _ _ (ok_any _) (λ p _. ok_need _ _ _ _ (λ r. ok! refl))))
+    (λ n. ok_need _ _ _ _ (λ l. ok_bind _ _ (ok_any _) (λ c _. ok_bind _ _ (ok_any _) (λ p _. ok! refl)))))))
 
-full-laid : (bs : Bytes) (at count : ℕ) (s : SchemeAt) (next : ℕ) → Octets bs → Between bs 1 next (or_null schemeItem (saidScheme bs s))
-    → Ok (λ o. OpeningLaid bs o.opening) (afterScheme bs at count s next)
-unfolding afterScheme
-full-laid bs at count s next sm b =
-    ok-need _ _ _ _ (λ w. ok-bind _ _ (ok-both (authority-at bs next) (ok-authority bs next sm)) (λ a q.
+full_laid : (bs : Bytes) (at count : ℕ) (s : SchemeAt) (next : ℕ) → Octets bs → Between bs 1 next (or_null scheme_item (said_scheme bs s))
+    → Ok (λ o. OpeningLaid bs o.opening) (after_scheme bs at count s next)
+unfolding after_scheme
+full_laid bs at count s next sm b =
+    ok_need _ _ _ _ (λ w. ok_bind _ _ (ok_both (authority_at bs next) (ok_authority bs next sm)) (λ a q.
     ok! (record {
-      scheme = between-at refl (sym q.0) b;
-      authority = between-at (sym q.0) refl (between b.inside q.1.inside q.1.spells);
+      scheme = between_at refl (sym q.0) b;
+      authority = between_at (sym q.0) refl (between b.inside q.1.inside q.1.spells);
     })))
 
-kind-laid : (k : Kind) (bs : Bytes) (count : ℕ) → Octets bs → Stands opens bs 1 → kind_at bs 1 ≡ k
-    → Ok (λ o. OpeningLaid bs o.opening) (openingBody bs 1 count (headAt bs 1) k)
-unfolding openingBody or_null schemeItem
-kind-laid Number bs count sm r e = ok-need _ _ _ _ (λ v. ok-need _ _ _ _ (λ c. ok-need _ _ _ _ (λ z. ok! tt)))
-kind-laid Negative bs count sm r e = ok-need _ _ _ _ (λ v. full-laid bs 1 count _ _ sm (head-between bs 1 sm r Negative tt e))
-kind-laid ByteString bs count sm r e = no!
-kind-laid Text bs count sm r e =
-    ok-bind _ _ (ok-textBody schemeName bs 1 sm r e) (λ next t.
-    full-laid bs 1 count _ next sm (set-text schemeName bs 1 0 next sm r e t).item)
-kind-laid Array bs count sm r e = no!
-kind-laid True bs count sm r e = ok-need _ _ _ _ (λ c. ok! tt)
-kind-laid Null bs count sm r e = full-laid bs 1 count _ _ sm (between (omega (arith, r.inside)) (next-inside bs 1 r) (null-spells bs 1 sm r e))
-kind-laid Other bs count sm r e = no!
+kind_laid : (k : Kind) (bs : Bytes) (count : ℕ) → Octets bs → Stands opens bs 1 → kind_at bs 1 ≡ k
+    → Ok (λ o. OpeningLaid bs o.opening) (opening_body bs 1 count (head_at bs 1) k)
+unfolding opening_body or_null scheme_item
+kind_laid Number bs count sm r e = ok_need _ _ _ _ (λ v. ok_need _ _ _ _ (λ c. ok_need _ _ _ _ (λ z. ok! tt)))
+kind_laid Negative bs count sm r e = ok_need _ _ _ _ (λ v. full_laid bs 1 count _ _ sm (head_between bs 1 sm r Negative tt e))
+kind_laid ByteString bs count sm r e = no!
+kind_laid Text bs count sm r e =
+    ok_bind _ _ (ok_text_body scheme_name bs 1 sm r e) (λ next t.
+    full_laid bs 1 count _ next sm (set_text scheme_name bs 1 0 next sm r e t).item)
+kind_laid Array bs count sm r e = no!
+kind_laid True bs count sm r e = ok_need _ _ _ _ (λ c. ok! tt)
+kind_laid Null bs count sm r e = full_laid bs 1 count _ _ sm (between (omega (arith, r.inside)) (next_inside bs 1 r) (null_spells bs 1 sm r e))
+kind_laid Other bs count sm r e = no!
 
-opening-laid : (bs : Bytes) (count : ℕ) → Octets bs → Ok (λ o. OpeningLaid bs o.opening) (readOpening bs 1 count)
-unfolding readOpening headAt
-opening-laid bs zero sm = ok! tt
-opening-laid bs (suc n) sm = ok-head _ _ _ _ (λ r. kind-laid (kind_at bs 1) bs (suc n) sm r refl)
+opening_laid_lem : (bs : Bytes) (count : ℕ) → Octets bs → Ok (λ o. OpeningLaid bs o.opening) (read_opening bs 1 count)
+unfolding read_opening head_at
+opening_laid_lem bs zero sm = ok! tt
+opening_laid_lem bs (suc n) sm = ok_head _ _ _ _ (λ r. kind_laid (kind_at bs 1) bs (suc n) sm r refl)
 
 -- ---- the whole
 
-path-laid : (bs : Bytes) (at left : ℕ) (p : Slot) (next end : ℕ) → end ≡ next → ArrayLaid bs at left p next → PathLaid bs p end
-path-laid bs at left unset next end e h = tt
-path-laid bs at left (set first n) next end e h = record { each = h.each; row = between-at refl (sym e) h.row }
+path_laid : (bs : Bytes) (at left : ℕ) (p : Slot) (next end : ℕ) → end ≡ next → ArrayLaid bs at left p next → PathLaid bs p end
+path_laid bs at left unset next end e h = tt
+path_laid bs at left (set first n) next end e h = record { each = h.each; row = between_at refl (sym e) h.row }
 
 -- the position after it: not before it, and inside where it is inside
 
@@ -258,82 +258,82 @@ pub record Onward (bs : Bytes) (at next : ℕ) : Type 0 where
   pub after : at ≤ next
   pub inside : at ≤ length bs → next ≤ length bs
 
-unset-onward : (bs : Bytes) (at left next : ℕ) → Unset bs at left next → Onward bs at next
-unset-onward bs at left next (left-off a b) = record { after = omega arith; inside = λ h. omega arith }
-unset-onward bs at left next (null a b) = record { after = omega (arith, b.ends); inside = λ h. b.inside }
+unset_onward : (bs : Bytes) (at left next : ℕ) → Unset bs at left next → Onward bs at next
+unset_onward bs at left next (left_off a b) = record { after = omega arith; inside = λ h. omega arith }
+unset_onward bs at left next (null a b) = record { after = omega (arith, b.ends); inside = λ h. b.inside }
 
-array-onward : (bs : Bytes) (at left : ℕ) (p : Slot) (next : ℕ) → ArrayLaid bs at left p next → Onward bs at next
-array-onward bs at left unset next u = unset-onward bs at left next u
-array-onward bs at left (set first n) next h = record { after = omega (arith, h.item.ends); inside = λ i. h.item.inside }
+array_onward : (bs : Bytes) (at left : ℕ) (p : Slot) (next : ℕ) → ArrayLaid bs at left p next → Onward bs at next
+array_onward bs at left unset next u = unset_onward bs at left next u
+array_onward bs at left (set first n) next h = record { after = omega (arith, h.item.ends); inside = λ i. h.item.inside }
 
-fragment-onward : (bs : Bytes) (at left : ℕ) (p : Slot) (next : ℕ) → FragmentLaid bs at left p next → Onward bs at next
-fragment-onward bs at left unset next u = unset-onward bs at left next u
-fragment-onward bs at left (set first n) next h = record { after = omega (arith, h.item.ends); inside = λ i. h.item.inside }
+fragment_onward : (bs : Bytes) (at left : ℕ) (p : Slot) (next : ℕ) → FragmentLaid bs at left p next → Onward bs at next
+fragment_onward bs at left unset next u = unset_onward bs at left next u
+fragment_onward bs at left (set first n) next h = record { after = omega (arith, h.item.ends); inside = λ i. h.item.inside }
 
 -- what stands from a first position on up to the end of the input
 tail_at : (bs : Bytes) (left : ℕ) (at : ℕ) (p : Slot) (p' : ℕ) (q : Slot) (q' : ℕ) (f : Slot) (f' : ℕ) → 1 ≤ at → at ≤ length bs → left ≤ 3
     → ArrayLaid bs at left p p' → ArrayLaid bs p' (left - 1) q q' → FragmentLaid bs q' (left - 2) f f' → length bs ≤ f' → TailAt bs p' q f
 tail_at bs left at p p' q q' f f' h k few pa qa fa e =
-    let a = array-onward bs at left p p' pa in
-    let b = array-onward bs p' (left - 1) q q' qa in
-    let c = fragment-onward bs q' (left - 2) f f' fa in
-    tail-laid bs p' left q q' f f' (omega (arith, a.after)) few qa fa (omega (arith, c.inside (b.inside (a.inside k))))
+    let a = array_onward bs at left p p' pa in
+    let b = array_onward bs p' (left - 1) q q' qa in
+    let c = fragment_onward bs q' (left - 2) f f' fa in
+    tail_laid bs p' left q q' f f' (omega (arith, a.after)) few qa fa (omega (arith, c.inside (b.inside (a.inside k))))
 
 -- a head of a number below 24 is one byte
-pub head-one : (v : ℕ) → v < 24 → headLength v ≡ 1
-unfolding headBytes shortest width bigEndian
-head-one v h = simp (lt-ltb v 24 h)
+pub head_one : (v : ℕ) → v < 24 → head_length v ≡ 1
+unfolding head_bytes shortest width big_endian
+head_one v h = simp (lt-ltb v 24 h)
 
 pub laid : (lim : Limits) (bs : Bytes) → Octets bs → Ok (λ f. Laid bs f) (read lim bs)
 unfolding read
 laid lim bs sm =
-    ok-need _ _ _ _ (λ size. ok-head _ _ _ _ (λ r. ok-need _ _ _ _ (λ n.
-    let b = head-between bs 0 sm r Array tt (is-kind Array (kind_at bs 0) r.kind) in
-    let few : (headAt bs 0).value ≤ 5 = leb-true _ _ n in
-    let one : (headAt bs 0).next ≡ 1 = omega (arith, b.ends, head-length Array (headAt bs 0).value, head-one (headAt bs 0).value (omega arith)) in
+    ok_need _ _ _ _ (λ size. ok_head _ _ _ _ (λ r. ok_need _ _ _ _ (λ n.
+    let b = head_between bs 0 sm r Array tt (is_kind Array (kind_at bs 0) r.kind) in
+    let few : (head_at bs 0).value ≤ 5 = leb-true _ _ n in
+    let one : (head_at bs 0).next ≡ 1 = omega (arith, b.ends, head_length_lem Array (head_at bs 0).value, head_one (head_at bs 0).value (omega arith)) in
     rw one
-    (ok-bind _ _ (ok-both (ok-opening bs 1 (headAt bs 0).value sm few) (opening-laid bs (headAt bs 0).value sm)) (λ o oa.
-    ok-bind _ _ (array-laid segment 0 lim.segments bs o.next o.left sm) (λ p pa.
-    ok-bind _ _ (array-laid parameter 1 16 bs p.next (o.left - 1) sm) (λ q qa.
-    ok-bind _ _ (fragment-laid bs q.next (o.left - 2) sm) (λ f fa.
-    ok-need _ _ _ _ (λ e.
-    let at : Between bs 1 o.next (concat (openItems (headAt bs 0).value (saidOpening bs o.opening))) = between (omega (arith, b.inside, one)) (oa.0.inside (omega (arith, b.inside, one))) oa.0.spells in
-    let t : TailAt bs p.next q.slot f.slot = tail_at bs o.left o.next p.slot p.next q.slot q.next f.slot f.next (omega (arith, at.ends)) at.inside (opens-left oa.0.opens) pa qa fa (leb-true _ _ e) in
-    ok! (record { opening = oa.1; path = path-laid bs o.next o.left p.slot p.next _ t.start pa; tail = t.laid }))))))))))
+    (ok_bind _ _ (ok_both (ok_opening bs 1 (head_at bs 0).value sm few) (opening_laid_lem bs (head_at bs 0).value sm)) (λ o oa.
+    ok_bind _ _ (array_laid segment 0 lim.segments bs o.next o.left sm) (λ p pa.
+    ok_bind _ _ (array_laid parameter 1 16 bs p.next (o.left - 1) sm) (λ q qa.
+    ok_bind _ _ (fragment_laid_lem bs q.next (o.left - 2) sm) (λ f fa.
+    ok_need _ _ _ _ (λ e.
+    let at : Between bs 1 o.next (concat (open_items (head_at bs 0).value (said_opening bs o.opening))) = between (omega (arith, b.inside, one)) (oa.0.inside (omega (arith, b.inside, one))) oa.0.spells in
+    let t : TailAt bs p.next q.slot f.slot = tail_at bs o.left o.next p.slot p.next q.slot q.next f.slot f.next (omega (arith, at.ends)) at.inside (opens_left oa.0.opens) pa qa fa (leb-true _ _ e) in
+    ok! (record { opening = oa.1; path = path_laid bs o.next o.left p.slot p.next _ t.start pa; tail = t.laid }))))))))))
 
 -- ---- what that says of an authority
 
 pub ordered : (bs : Bytes) (o : OpeningAt) → OpeningLaid bs o → Ordered o
-ordered bs (discardAt k) h = tt
-ordered bs discardAllAt h = tt
-ordered bs (fullAt s a) h = (omega (arith, h.scheme.ends), omega (arith, h.authority.ends))
+ordered bs (discard_at k) h = tt
+ordered bs discard_all_at h = tt
+ordered bs (full_at s a) h = (omega (arith, h.scheme.ends), omega (arith, h.authority.ends))
 
 -- a part of one of two inputs lies inside it
 abbrev pub PieceStands : Bytes → Bytes → Piece → Type 0
-PieceStands base ref (ofReference s) = s.start + s.length ≤ length ref
-PieceStands base ref (ofBase s) = s.start + s.length ≤ length base
+PieceStands base ref (of_reference s) = s.start + s.length ≤ length ref
+PieceStands base ref (of_base s) = s.start + s.length ≤ length base
 
-chosen-inside : (base ref : Bytes) (b r : OpeningAt) → OpeningLaid base b → OpeningLaid ref r → PieceStands base ref (chosen (authoritySpan b) (authoritySpan r))
-chosen-inside base ref b r k h = own r h
+chosen_inside : (base ref : Bytes) (b r : OpeningAt) → OpeningLaid base b → OpeningLaid ref r → PieceStands base ref (chosen (authority_span b) (authority_span r))
+chosen_inside base ref b r k h = own r h
   where
-    other : (b : OpeningAt) → OpeningLaid base b → PieceStands base ref (chosen (authoritySpan b) none)
-    other (discardAt n) k = omega arith
-    other discardAllAt k = omega arith
-    other (fullAt s a) k = omega (arith, k.authority.ends, k.authority.inside)
+    other : (b : OpeningAt) → OpeningLaid base b → PieceStands base ref (chosen (authority_span b) none)
+    other (discard_at n) k = omega arith
+    other discard_all_at k = omega arith
+    other (full_at s a) k = omega (arith, k.authority.ends, k.authority.inside)
 
-    own : (r : OpeningAt) → OpeningLaid ref r → PieceStands base ref (chosen (authoritySpan b) (authoritySpan r))
-    own (discardAt n) h = other b k
-    own discardAllAt h = other b k
-    own (fullAt s a) h = omega (arith, h.authority.ends, h.authority.inside)
+    own : (r : OpeningAt) → OpeningLaid ref r → PieceStands base ref (chosen (authority_span b) (authority_span r))
+    own (discard_at n) h = other b k
+    own discard_all_at h = other b k
+    own (full_at s a) h = omega (arith, h.authority.ends, h.authority.inside)
 
 -- a refusal of the base
-ok-base : {A : Type 0} {P : A → Type 0} {m : Res A} → Ok P m → Ok P (asBase m)
-ok-base no! = no!
-ok-base (ok! p) = ok! p
+ok_base : {A : Type 0} {P : A → Type 0} {m : Res A} → Ok P m → Ok P (as_base m)
+ok_base no! = no!
+ok_base (ok! p) = ok! p
 
 -- the view of an authority lies inside
-pub authority-inside : (lim : Limits) (base ref : Bytes) → Octets base → Octets ref → Ok (λ p. PieceStands base ref p) (authorityView lim base ref)
-unfolding authorityView
-authority-inside lim base ref sb sr =
-    ok-bind _ _ (ok-base (laid lim base sb)) (λ b hb. ok-then _ _ (ok-bind _ _ (laid lim ref sr) (λ r hr.
-    ok! (chosen-inside base ref b.opening r.opening hb.opening hr.opening))))
+pub authority_inside : (lim : Limits) (base ref : Bytes) → Octets base → Octets ref → Ok (λ p. PieceStands base ref p) (authority_view lim base ref)
+unfolding authority_view
+authority_inside lim base ref sb sr =
+    ok_bind _ _ (ok_base (laid lim base sb)) (λ b hb. ok_then _ _ (ok_bind _ _ (laid lim ref sr) (λ r hr.
+    ok! (chosen_inside base ref b.opening r.opening hb.opening hr.opening))))

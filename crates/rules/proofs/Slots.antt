@@ -7,17 +7,17 @@ use mathlib.Core.List.{List, [], ◌∷◌, ◌++◌, append_assoc, append-nil, 
 use mathlib.Core.Option.{Option, none, some}
 use lib.ListN.{length, get_or, drop, length-map}
 use borrow.Author.Tests.{ne_eqb}
-use Rattle.rules.specs.Bytes.{Bytes, Each, Octets, within, concat, bigEndian}
-use Rattle.rules.specs.Head.{Kind, Text, Array, Null, code_of, is, Head, kind_at, headAt, headBytes, majorOf, shortest, width}
-use Rattle.rules.specs.Rules.{Sort, fragmentText}
-use Rattle.rules.specs.Reader.{contents, Slot, unset, SlotAt, nullBody, arrayBody, readArray, fragmentBody, readFragment, contentAt}
-use Rattle.rules.specs.Meaning.{saidTexts, saidText}
-use Rattle.rules.specs.Encode.{textItem, arrayItem, textsItem, nullItem, or_null, tailItems}
+use Rattle.rules.specs.Bytes.{Bytes, Each, Octets, within, concat, big_endian}
+use Rattle.rules.specs.Head.{Kind, Text, Array, Null, code_of, is, Head, kind_at, head_at, head_bytes, major_of, shortest, width}
+use Rattle.rules.specs.Rules.{Sort, fragment_text}
+use Rattle.rules.specs.Reader.{contents, Slot, unset, SlotAt, null_body, array_body, read_array, fragment_body, read_fragment, content_at}
+use Rattle.rules.specs.Meaning.{said_texts, said_text}
+use Rattle.rules.specs.Encode.{text_item, array_item, texts_item, null_item, or_null, tail_items}
 use Rattle.rules.specs.Valid.{If, Good, GoodTexts}
 use Rattle.rules.proofs.Tools.{never, or_left}
-use Rattle.rules.proofs.Steps.{Ok, ok!, ok-bind, ok-if, ok-need, Yes, yes!, yes-bind, yes-then, yes-else, yes-need, Stable, same!, stable-bind, stable-if, stable-need}
-use Rattle.rules.proofs.Heads.{is-kind, small-value, Stands, ok-head, yes-head, head-spells, next-inside, Spelled, spelled, head-stable, Lead, lead}
-use Rattle.rules.proofs.Texts.{ok-textBody, ok-texts, FitText, yes-textBody, spelled-text, yes-texts, textBody-stable, texts-stable, length-contents}
+use Rattle.rules.proofs.Steps.{Ok, ok!, ok_bind, ok_if, ok_need, Yes, yes!, yes_bind, yes_then, yes_else, yes_need, Stable, same!, stable_bind, stable_if, stable_need}
+use Rattle.rules.proofs.Heads.{is_kind, small_value, Stands, ok_head, yes_head, head_spells, next_inside, Spelled, spelled, head_stable, Lead, lead}
+use Rattle.rules.proofs.Texts.{ok_text_body, ok_texts, FitText, yes_text_body, spelled_text, yes_texts, text_body_stable, texts_stable, length_contents}
 
 -- ---- what is written of a slot where `left` items are left, this one among them
 
@@ -35,19 +35,19 @@ Last (suc n) (some a) = Unit {0}
 
 -- ---- null
 
-null-value : (bs : Bytes) (at : ℕ) → kind_at bs at ≡ Null → (headAt bs at).value ≡ 22
-null-value bs at e = small-value bs at 0xF6 (subst (λ (k : Kind). Lead k (get_or bs at 0)) e (lead (get_or bs at 0))) refl
+null_value : (bs : Bytes) (at : ℕ) → kind_at bs at ≡ Null → (head_at bs at).value ≡ 22
+null_value bs at e = small_value bs at 0xF6 (subst (λ (k : Kind). Lead k (get_or bs at 0)) e (lead (get_or bs at 0))) refl
 
-null-bytes : headBytes Null 22 ≡ nullItem
-unfolding headBytes majorOf shortest width bigEndian
-null-bytes = refl
+null_bytes : head_bytes Null 22 ≡ null_item
+unfolding head_bytes major_of shortest width big_endian
+null_bytes = refl
 
-pub null-spells : {allowed : Kind → Bool} (bs : Bytes) (at : ℕ) → Octets bs → Stands allowed bs at → kind_at bs at ≡ Null → drop at bs ≡ nullItem ++ drop (headAt bs at).next bs
-null-spells bs at sm r e =
-    head-spells bs at sm r Null tt e ∙ ap (λ (x : Bytes). x ++ drop (headAt bs at).next bs) (ap (headBytes Null) (null-value bs at e) ∙ null-bytes)
+pub null_spells : {allowed : Kind → Bool} (bs : Bytes) (at : ℕ) → Octets bs → Stands allowed bs at → kind_at bs at ≡ Null → drop at bs ≡ null_item ++ drop (head_at bs at).next bs
+null_spells bs at sm r e =
+    head_spells bs at sm r Null tt e ∙ ap (λ (x : Bytes). x ++ drop (head_at bs at).next bs) (ap (head_bytes Null) (null_value bs at e) ∙ null_bytes)
 
-pub spelled-null : (bs : Bytes) (at : ℕ) (rest : Bytes) → drop at bs ≡ nullItem ++ rest → Spelled Null 22 bs at rest
-spelled-null bs at rest e = spelled Null 22 bs at rest refl (e ∙ ap (λ (x : Bytes). x ++ rest) (sym null-bytes))
+pub spelled_null : (bs : Bytes) (at : ℕ) (rest : Bytes) → drop at bs ≡ null_item ++ rest → Spelled Null 22 bs at rest
+spelled_null bs at rest e = spelled Null 22 bs at rest refl (e ∙ ap (λ (x : Bytes). x ++ rest) (sym null_bytes))
 
 -- ---- a slot that is accepted
 
@@ -59,65 +59,65 @@ pub record SlotIs {A : Type 0} (f : A → Bytes) (P : A → Type 0) (bs : Bytes)
   pub inside : at ≤ length bs → next ≤ length bs
 
 -- one item at the place
-pub one-item : (x : Bytes) (l r : Bytes) → l ≡ x ++ r → l ≡ concat (x ∷ []) ++ r
+pub one_item : (x : Bytes) (l r : Bytes) → l ≡ x ++ r → l ≡ concat (x ∷ []) ++ r
 unfolding concat
-one-item x l r e = e ∙ ap (λ (y : Bytes). y ++ r) (sym (append-nil x))
+one_item x l r e = e ∙ ap (λ (y : Bytes). y ++ r) (sym (append-nil x))
 
 -- the one item that was written
-pub item-one : (x : Bytes) (l r : Bytes) → l ≡ concat (x ∷ []) ++ r → l ≡ x ++ r
+pub item_one : (x : Bytes) (l r : Bytes) → l ≡ concat (x ∷ []) ++ r → l ≡ x ++ r
 unfolding concat
-item-one x l r e = e ∙ ap (λ (y : Bytes). y ++ r) (append-nil x)
+item_one x l r e = e ∙ ap (λ (y : Bytes). y ++ r) (append-nil x)
 
-ok-null : {A : Type 0} {f : A → Bytes} {P : A → Type 0} {allowed : Kind → Bool} (say : Slot → Option A) → say unset ≡ none
+ok_null : {A : Type 0} {f : A → Bytes} {P : A → Type 0} {allowed : Kind → Bool} (say : Slot → Option A) → say unset ≡ none
     → (bs : Bytes) (at left : ℕ) → Octets bs → Stands allowed bs at → kind_at bs at ≡ Null
-    → Ok (λ p. SlotIs f P bs at (suc left) (say p.slot) p.next) (nullBody at left (headAt bs at))
-unfolding nullBody or_null
-ok-null {f = f} {P = P} say u bs at zero sm r e = ok-need _ _ _ _ (λ t. never t)
-ok-null {f = f} {P = P} say u bs at (suc left) sm r e = ok-need _ _ _ _ (λ t.
-    ok! (rw u (record { spells = one-item nullItem _ _ (null-spells bs at sm r e); last = tt; good = tt; inside = λ h. next-inside bs at r })))
+    → Ok (λ p. SlotIs f P bs at (suc left) (say p.slot) p.next) (null_body at left (head_at bs at))
+unfolding null_body or_null
+ok_null {f = f} {P = P} say u bs at zero sm r e = ok_need _ _ _ _ (λ t. never t)
+ok_null {f = f} {P = P} say u bs at (suc left) sm r e = ok_need _ _ _ _ (λ t.
+    ok! (rw u (record { spells = one_item null_item _ _ (null_spells bs at sm r e); last = tt; good = tt; inside = λ h. next_inside bs at r })))
 
-ok-arrayBody : {allowed : Kind → Bool} (s : Sort) (low high : ℕ) (bs : Bytes) (at left : ℕ) → Octets bs → Stands allowed bs at → kind_at bs at ≡ Array
-    → Ok (λ p. SlotIs textsItem (GoodTexts s low high) bs at (suc left) (saidTexts bs p.slot) p.next) (arrayBody s low high bs at (headAt bs at))
-unfolding arrayBody textsItem arrayItem or_null
-ok-arrayBody s low high bs at left sm r e =
-    let h : Head = headAt bs at in
+ok_array_body : {allowed : Kind → Bool} (s : Sort) (low high : ℕ) (bs : Bytes) (at left : ℕ) → Octets bs → Stands allowed bs at → kind_at bs at ≡ Array
+    → Ok (λ p. SlotIs texts_item (GoodTexts s low high) bs at (suc left) (said_texts bs p.slot) p.next) (array_body s low high bs at (head_at bs at))
+unfolding array_body texts_item array_item or_null
+ok_array_body s low high bs at left sm r e =
+    let h : Head = head_at bs at in
     let ts : List Bytes = contents bs h.next h.value in
-    let n : length ts ≡ h.value = length-contents bs h.next h.value in
-    ok-need _ _ _ _ (λ w. ok-bind _ _ (ok-texts s bs h.next h.value sm) (λ next t.
+    let n : length ts ≡ h.value = length_contents bs h.next h.value in
+    ok_need _ _ _ _ (λ w. ok_bind _ _ (ok_texts s bs h.next h.value sm) (λ next t.
     ok! (record {
-      spells = one-item (textsItem ts) _ _
-          (head-spells bs at sm r Array tt e
-          ∙ ap₂ (λ (v : ℕ) (xs : Bytes). headBytes Array v ++ xs) (sym (length-map ts textItem ∙ n)) t.spells
-          ∙ sym (append_assoc (headBytes Array (length (map textItem ts))) (concat (map textItem ts)) (drop next bs)));
+      spells = one_item (texts_item ts) _ _
+          (head_spells bs at sm r Array tt e
+          ∙ ap₂ (λ (v : ℕ) (xs : Bytes). head_bytes Array v ++ xs) (sym (length-map ts text_item ∙ n)) t.spells
+          ∙ sym (append_assoc (head_bytes Array (length (map text_item ts))) (concat (map text_item ts)) (drop next bs)));
       last = tt;
       good = record { count = subst (λ (m : ℕ). within low high m ≡ true) (sym n) w; each = t.good };
-      inside = λ i. t.inside (next-inside bs at r);
+      inside = λ i. t.inside (next_inside bs at r);
     })))
 
-pub ok-array : (s : Sort) (low high : ℕ) (bs : Bytes) (at left : ℕ) → Octets bs
-    → Ok (λ p. SlotIs textsItem (GoodTexts s low high) bs at left (saidTexts bs p.slot) p.next) (readArray s low high bs at left)
-unfolding readArray concat headAt
-ok-array s low high bs at zero sm = ok! (record { spells = refl; last = tt; good = tt; inside = λ h. h })
-ok-array s low high bs at (suc left) sm =
-    ok-head _ _ _ _ (λ r. ok-if _ _ _
-    (λ y. ok-null (saidTexts bs) refl bs at left sm r (is-kind Null _ y))
-    (λ n. ok-arrayBody s low high bs at left sm r (is-kind Array _ (or_left _ _ r.kind n))))
+pub ok_array : (s : Sort) (low high : ℕ) (bs : Bytes) (at left : ℕ) → Octets bs
+    → Ok (λ p. SlotIs texts_item (GoodTexts s low high) bs at left (said_texts bs p.slot) p.next) (read_array s low high bs at left)
+unfolding read_array concat head_at
+ok_array s low high bs at zero sm = ok! (record { spells = refl; last = tt; good = tt; inside = λ h. h })
+ok_array s low high bs at (suc left) sm =
+    ok_head _ _ _ _ (λ r. ok_if _ _ _
+    (λ y. ok_null (said_texts bs) refl bs at left sm r (is_kind Null _ y))
+    (λ n. ok_array_body s low high bs at left sm r (is_kind Array _ (or_left _ _ r.kind n))))
 
-ok-fragmentBody : {allowed : Kind → Bool} (bs : Bytes) (at left : ℕ) → Octets bs → Stands allowed bs at → kind_at bs at ≡ Text
-    → Ok (λ p. SlotIs textItem (Good fragmentText) bs at (suc left) (saidText bs p.slot) p.next) (fragmentBody bs at (headAt bs at))
-unfolding fragmentBody or_null
-ok-fragmentBody bs at left sm r e =
-    ok-bind _ _ (ok-textBody fragmentText bs at sm r e) (λ next t.
-    ok! (record { spells = one-item (textItem (contentAt bs at)) _ _ t.spells; last = tt; good = t.good; inside = λ i. omega (arith, t.ends, t.stands.inside) }))
+ok_fragment_body : {allowed : Kind → Bool} (bs : Bytes) (at left : ℕ) → Octets bs → Stands allowed bs at → kind_at bs at ≡ Text
+    → Ok (λ p. SlotIs text_item (Good fragment_text) bs at (suc left) (said_text bs p.slot) p.next) (fragment_body bs at (head_at bs at))
+unfolding fragment_body or_null
+ok_fragment_body bs at left sm r e =
+    ok_bind _ _ (ok_text_body fragment_text bs at sm r e) (λ next t.
+    ok! (record { spells = one_item (text_item (content_at bs at)) _ _ t.spells; last = tt; good = t.good; inside = λ i. omega (arith, t.ends, t.stands.inside) }))
 
-pub ok-fragment : (bs : Bytes) (at left : ℕ) → Octets bs
-    → Ok (λ p. SlotIs textItem (Good fragmentText) bs at left (saidText bs p.slot) p.next) (readFragment bs at left)
-unfolding readFragment concat headAt
-ok-fragment bs at zero sm = ok! (record { spells = refl; last = tt; good = tt; inside = λ h. h })
-ok-fragment bs at (suc left) sm =
-    ok-head _ _ _ _ (λ r. ok-if _ _ _
-    (λ y. ok-null (saidText bs) refl bs at left sm r (is-kind Null _ y))
-    (λ n. ok-fragmentBody bs at left sm r (is-kind Text _ (or_left _ _ r.kind n))))
+pub ok_fragment : (bs : Bytes) (at left : ℕ) → Octets bs
+    → Ok (λ p. SlotIs text_item (Good fragment_text) bs at left (said_text bs p.slot) p.next) (read_fragment bs at left)
+unfolding read_fragment concat head_at
+ok_fragment bs at zero sm = ok! (record { spells = refl; last = tt; good = tt; inside = λ h. h })
+ok_fragment bs at (suc left) sm =
+    ok_head _ _ _ _ (λ r. ok_if _ _ _
+    (λ y. ok_null (said_text bs) refl bs at left sm r (is_kind Null _ y))
+    (λ n. ok_fragment_body bs at left sm r (is_kind Text _ (or_left _ _ r.kind n))))
 
 -- ---- a slot that was written is accepted where it is good, and what is accepted is the slot
 
@@ -129,83 +129,83 @@ pub record SlotWas {A : Type 0} (say : Slot → Option A) (o : Option A) (bs : B
   pub says : say p.slot ≡ o
   pub after : drop p.next bs ≡ rest
 
-yes-null : {G A : Type 0} (say : Slot → Option A) → say unset ≡ none → (bs : Bytes) (at left : ℕ) (rest : Bytes) → Spelled Null 22 bs at rest
-    → Yes G (λ p. SlotWas say none bs rest p) (nullBody at (suc left) (headAt bs at))
-unfolding nullBody
-yes-null say u bs at left rest w = yes-need _ _ _ _ (λ g. ap not (ne_eqb (suc left) 0 (omega arith))) (λ t. yes! (record { says = u; after = w.rest }))
+yes_null : {G A : Type 0} (say : Slot → Option A) → say unset ≡ none → (bs : Bytes) (at left : ℕ) (rest : Bytes) → Spelled Null 22 bs at rest
+    → Yes G (λ p. SlotWas say none bs rest p) (null_body at (suc left) (head_at bs at))
+unfolding null_body
+yes_null say u bs at left rest w = yes_need _ _ _ _ (λ g. ap not (ne_eqb (suc left) 0 (omega arith))) (λ t. yes! (record { says = u; after = w.rest }))
 
-yes-arrayBody : {G : Type 0} (s : Sort) (low high : ℕ) (ts : List Bytes) (bs : Bytes) (at : ℕ) (rest : Bytes) → Each FitText ts → (G → GoodTexts s low high ts)
-    → Spelled Array (length ts) bs at (concat (map textItem ts) ++ rest)
-    → Yes G (λ p. SlotWas (saidTexts bs) (some ts) bs rest p) (arrayBody s low high bs at (headAt bs at))
-unfolding arrayBody
-yes-arrayBody s low high ts bs at rest f good w =
-    let h : Head = headAt bs at in
-    yes-need _ _ _ _ (λ g. subst (λ (m : ℕ). within low high m ≡ true) (sym w.value) (good g).count)
-    (λ t. rw w.value (yes-bind _ _ (yes-texts s ts bs h.next rest f (λ g. (good g).each) w.rest) (λ next r.
+yes_array_body : {G : Type 0} (s : Sort) (low high : ℕ) (ts : List Bytes) (bs : Bytes) (at : ℕ) (rest : Bytes) → Each FitText ts → (G → GoodTexts s low high ts)
+    → Spelled Array (length ts) bs at (concat (map text_item ts) ++ rest)
+    → Yes G (λ p. SlotWas (said_texts bs) (some ts) bs rest p) (array_body s low high bs at (head_at bs at))
+unfolding array_body
+yes_array_body s low high ts bs at rest f good w =
+    let h : Head = head_at bs at in
+    yes_need _ _ _ _ (λ g. subst (λ (m : ℕ). within low high m ≡ true) (sym w.value) (good g).count)
+    (λ t. rw w.value (yes_bind _ _ (yes_texts s ts bs h.next rest f (λ g. (good g).each) w.rest) (λ next r.
     yes! (record { says = ap some r.1; after = r.0 }))))
 
-spelled-texts : (ts : List Bytes) (bs : Bytes) (at : ℕ) (rest : Bytes) → length ts < 2 ^ 64 → drop at bs ≡ textsItem ts ++ rest
-    → Spelled Array (length ts) bs at (concat (map textItem ts) ++ rest)
-unfolding textsItem arrayItem
-spelled-texts ts bs at rest f e =
-    spelled Array (length ts) bs at (concat (map textItem ts) ++ rest) f
-    (e ∙ append_assoc (headBytes Array (length (map textItem ts))) (concat (map textItem ts)) rest
-    ∙ ap (λ (n : ℕ). headBytes Array n ++ (concat (map textItem ts) ++ rest)) (length-map ts textItem))
+spelled_texts : (ts : List Bytes) (bs : Bytes) (at : ℕ) (rest : Bytes) → length ts < 2 ^ 64 → drop at bs ≡ texts_item ts ++ rest
+    → Spelled Array (length ts) bs at (concat (map text_item ts) ++ rest)
+unfolding texts_item array_item
+spelled_texts ts bs at rest f e =
+    spelled Array (length ts) bs at (concat (map text_item ts) ++ rest) f
+    (e ∙ append_assoc (head_bytes Array (length (map text_item ts))) (concat (map text_item ts)) rest
+    ∙ ap (λ (n : ℕ). head_bytes Array n ++ (concat (map text_item ts) ++ rest)) (length-map ts text_item))
 
-pub yes-array : {G : Type 0} (s : Sort) (low high : ℕ) (o : Option (List Bytes)) (bs : Bytes) (at left : ℕ) (rest : Bytes)
-    → Last left o → If FitTexts o → (G → If (GoodTexts s low high) o) → drop at bs ≡ concat (written textsItem left o) ++ rest
-    → Yes G (λ p. SlotWas (saidTexts bs) o bs rest p) (readArray s low high bs at left)
-unfolding readArray concat or_null code_of
-yes-array s low high none bs at zero rest l f good e = yes! (record { says = refl; after = e })
-yes-array s low high none bs at (suc (suc n)) rest l f good e =
-    let w = spelled-null bs at rest (item-one nullItem _ _ e) in
-    yes-head _ _ _ _ (w.stands (λ k. is Array k || is Null k) refl) (yes-then _ _ _ (subst (λ (k : Kind). is Null k ≡ true) (sym w.kind) refl) (yes-null (saidTexts bs) refl bs at n rest w))
-yes-array s low high (some ts) bs at (suc n) rest l f good e =
-    let w = spelled-texts ts bs at rest f.0 (item-one (textsItem ts) _ _ e) in
-    yes-head _ _ _ _ (w.stands (λ k. is Array k || is Null k) refl)
-    (yes-else _ _ _ (subst (λ (k : Kind). not (is Null k) ≡ true) (sym w.kind) refl) (yes-arrayBody s low high ts bs at rest f.1 good w))
+pub yes_array : {G : Type 0} (s : Sort) (low high : ℕ) (o : Option (List Bytes)) (bs : Bytes) (at left : ℕ) (rest : Bytes)
+    → Last left o → If FitTexts o → (G → If (GoodTexts s low high) o) → drop at bs ≡ concat (written texts_item left o) ++ rest
+    → Yes G (λ p. SlotWas (said_texts bs) o bs rest p) (read_array s low high bs at left)
+unfolding read_array concat or_null code_of
+yes_array s low high none bs at zero rest l f good e = yes! (record { says = refl; after = e })
+yes_array s low high none bs at (suc (suc n)) rest l f good e =
+    let w = spelled_null bs at rest (item_one null_item _ _ e) in
+    yes_head _ _ _ _ (w.stands (λ k. is Array k || is Null k) refl) (yes_then _ _ _ (subst (λ (k : Kind). is Null k ≡ true) (sym w.kind) refl) (yes_null (said_texts bs) refl bs at n rest w))
+yes_array s low high (some ts) bs at (suc n) rest l f good e =
+    let w = spelled_texts ts bs at rest f.0 (item_one (texts_item ts) _ _ e) in
+    yes_head _ _ _ _ (w.stands (λ k. is Array k || is Null k) refl)
+    (yes_else _ _ _ (subst (λ (k : Kind). not (is Null k) ≡ true) (sym w.kind) refl) (yes_array_body s low high ts bs at rest f.1 good w))
 
-pub yes-fragment : {G : Type 0} (o : Option Bytes) (bs : Bytes) (at left : ℕ) (rest : Bytes)
-    → Last left o → If FitText o → (G → If (Good fragmentText) o) → drop at bs ≡ concat (written textItem left o) ++ rest
-    → Yes G (λ p. SlotWas (saidText bs) o bs rest p) (readFragment bs at left)
-unfolding readFragment concat or_null code_of fragmentBody
-yes-fragment none bs at zero rest l f good e = yes! (record { says = refl; after = e })
-yes-fragment none bs at (suc (suc n)) rest l f good e =
-    let w = spelled-null bs at rest (item-one nullItem _ _ e) in
-    yes-head _ _ _ _ (w.stands (λ k. is Text k || is Null k) refl) (yes-then _ _ _ (subst (λ (k : Kind). is Null k ≡ true) (sym w.kind) refl) (yes-null (saidText bs) refl bs at n rest w))
-yes-fragment (some t) bs at (suc n) rest l f good e =
-    let w = spelled-text t bs at rest f (item-one (textItem t) _ _ e) in
-    yes-head _ _ _ _ (w.stands (λ k. is Text k || is Null k) refl)
-    (yes-else _ _ _ (subst (λ (k : Kind). not (is Null k) ≡ true) (sym w.kind) refl)
-    (yes-bind _ _ (yes-textBody fragmentText t bs at rest w good) (λ next r. yes! (record { says = ap some r.says; after = r.after }))))
+pub yes_fragment : {G : Type 0} (o : Option Bytes) (bs : Bytes) (at left : ℕ) (rest : Bytes)
+    → Last left o → If FitText o → (G → If (Good fragment_text) o) → drop at bs ≡ concat (written text_item left o) ++ rest
+    → Yes G (λ p. SlotWas (said_text bs) o bs rest p) (read_fragment bs at left)
+unfolding read_fragment concat or_null code_of fragment_body
+yes_fragment none bs at zero rest l f good e = yes! (record { says = refl; after = e })
+yes_fragment none bs at (suc (suc n)) rest l f good e =
+    let w = spelled_null bs at rest (item_one null_item _ _ e) in
+    yes_head _ _ _ _ (w.stands (λ k. is Text k || is Null k) refl) (yes_then _ _ _ (subst (λ (k : Kind). is Null k ≡ true) (sym w.kind) refl) (yes_null (said_text bs) refl bs at n rest w))
+yes_fragment (some t) bs at (suc n) rest l f good e =
+    let w = spelled_text t bs at rest f (item_one (text_item t) _ _ e) in
+    yes_head _ _ _ _ (w.stands (λ k. is Text k || is Null k) refl)
+    (yes_else _ _ _ (subst (λ (k : Kind). not (is Null k) ≡ true) (sym w.kind) refl)
+    (yes_bind _ _ (yes_text_body fragment_text t bs at rest w good) (λ next r. yes! (record { says = ap some r.says; after = r.after }))))
 
 -- ---- more bytes at the end
 
-pub array-stable : (s : Sort) (low high : ℕ) (p q : Bytes) (at left : ℕ) → Stable (readArray s low high p at left) (readArray s low high (p ++ q) at left)
-unfolding readArray arrayBody
-array-stable s low high p q at zero = same!
-array-stable s low high p q at (suc left) =
-    stable-bind _ _ _ _ (head-stable _ p q at) (λ h. stable-if _ _ _ _ _ (λ y. same!)
-    (λ n. stable-need _ _ _ _ _ (λ w. stable-bind _ _ _ _ (texts-stable s p q h.next h.value) (λ next. same!))))
+pub array_stable : (s : Sort) (low high : ℕ) (p q : Bytes) (at left : ℕ) → Stable (read_array s low high p at left) (read_array s low high (p ++ q) at left)
+unfolding read_array array_body
+array_stable s low high p q at zero = same!
+array_stable s low high p q at (suc left) =
+    stable_bind _ _ _ _ (head_stable _ p q at) (λ h. stable_if _ _ _ _ _ (λ y. same!)
+    (λ n. stable_need _ _ _ _ _ (λ w. stable_bind _ _ _ _ (texts_stable s p q h.next h.value) (λ next. same!))))
 
-pub fragment-stable : (p q : Bytes) (at left : ℕ) → Stable (readFragment p at left) (readFragment (p ++ q) at left)
-unfolding readFragment fragmentBody
-fragment-stable p q at zero = same!
-fragment-stable p q at (suc left) =
-    stable-bind _ _ _ _ (head-stable _ p q at) (λ h. stable-if _ _ _ _ _ (λ y. same!)
-    (λ n. stable-bind _ _ _ _ (textBody-stable fragmentText p q at h) (λ next. same!)))
+pub fragment_stable : (p q : Bytes) (at left : ℕ) → Stable (read_fragment p at left) (read_fragment (p ++ q) at left)
+unfolding read_fragment fragment_body
+fragment_stable p q at zero = same!
+fragment_stable p q at (suc left) =
+    stable_bind _ _ _ _ (head_stable _ p q at) (λ h. stable_if _ _ _ _ _ (λ y. same!)
+    (λ n. stable_bind _ _ _ _ (text_body_stable fragment_text p q at h) (λ next. same!)))
 
 -- ---- path, query and fragment together
 
 module _ (p q : Option (List Bytes)) (f : Option Bytes) where
   abbrev pub three : ℕ → List Bytes
-  three left = written textsItem left p ++ (written textsItem (left - 1) q ++ written textItem (left - 2) f)
+  three left = written texts_item left p ++ (written texts_item (left - 1) q ++ written text_item (left - 2) f)
 
-pub tail-three : (left : ℕ) (p q : Option (List Bytes)) (f : Option Bytes) → left ≤ 3 → Last left p → Last (left - 1) q → Last (left - 2) f
-    → (tailItems p q f ≡ three p q f left) × (length (tailItems p q f) ≡ left)
-unfolding tailItems or_null
-tail-three zero none none none h a b c = (refl, refl)
-tail-three (suc zero) (some p) none none h a b c = (refl, refl)
-tail-three (suc (suc zero)) p (some q) none h a b c = (refl, refl)
-tail-three (suc (suc (suc zero))) p q (some f) h a b c = (refl, refl)
-tail-three (suc (suc (suc (suc n)))) p q f h a b c = absurd (omega arith)
+pub tail_three : (left : ℕ) (p q : Option (List Bytes)) (f : Option Bytes) → left ≤ 3 → Last left p → Last (left - 1) q → Last (left - 2) f
+    → (tail_items p q f ≡ three p q f left) × (length (tail_items p q f) ≡ left)
+unfolding tail_items or_null
+tail_three zero none none none h a b c = (refl, refl)
+tail_three (suc zero) (some p) none none h a b c = (refl, refl)
+tail_three (suc (suc zero)) p (some q) none h a b c = (refl, refl)
+tail_three (suc (suc (suc zero))) p q (some f) h a b c = (refl, refl)
+tail_three (suc (suc (suc (suc n)))) p q f h a b c = absurd (omega arith)

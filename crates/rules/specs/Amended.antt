@@ -4,24 +4,24 @@ use Rattle.rules.specs.Bytes.{ascii, dot, Each, all, member}
 use Rattle.rules.specs.Model.{Reference, Limits}
 use Rattle.rules.specs.Rules.{Sort, upper, label}
 use Rattle.rules.specs.Valid.{ValidBy}
-use Rattle.rules.specs.Writing.{openingLabels}
+use Rattle.rules.specs.Writing.{opening_labels}
 
 -- a label holds no "." and no A to Z
-unfoldable pub earlierByte : ℕ → Bool
-earlierByte b = not (eqb b dot) && not (upper b)
+unfoldable pub earlier_byte : ℕ → Bool
+earlier_byte b = not (eqb b dot) && not (upper b)
 
 -- of the same size
-abbrev pub earlierLabel : Sort
-earlierLabel = record { low = label.low; high = label.high; rule = all earlierByte }
+abbrev pub earlier_label : Sort
+earlier_label = record { low = label.low; high = label.high; rule = all earlier_byte }
 
 -- and nothing else differs
 abbrev pub EarlierValid : Limits → Reference → Type 0
-EarlierValid = ValidBy earlierLabel
+EarlierValid = ValidBy earlier_label
 
 -- neither "[" nor "]"
-abbrev pub noBracket : ℕ → Bool
-noBracket b = not (member b (ascii "[]"))
+abbrev pub no_bracket : ℕ → Bool
+no_bracket b = not (member b (ascii "[]"))
 
 -- no label of the reference holds one
 abbrev pub NoBrackets : Reference → Type 0
-NoBrackets r = Each (λ t. all noBracket t ≡ true) (openingLabels r.opening)
+NoBrackets r = Each (λ t. all no_bracket t ≡ true) (opening_labels r.opening)

@@ -3,15 +3,15 @@ use Rattle.std.specs.Prelude.{ℕ, Bool, true, false, cond, ◌++◌, length, dr
 use Rattle.std.proofs.Math.Option.{Option, none, some}
 use Rattle.rules.specs.Bytes.{Bytes, all}
 use Rattle.rules.specs.Result.{Res, refused, ok, need, given, ◌>>=◌, ◌>>◌, LIMIT, RESULT, ROOM, COAP, DEST}
-use Rattle.rules.specs.Model.{Limits, Components, mapParts, reference}
-use Rattle.rules.specs.Rules.{addressSize}
+use Rattle.rules.specs.Model.{Limits, Components, map_parts, reference}
+use Rattle.rules.specs.Rules.{address_size}
 use Rattle.rules.specs.Reader.{taken, read}
-use Rattle.rules.specs.Meaning.{components, readReference, readAbsolute}
+use Rattle.rules.specs.Meaning.{components, read_reference, read_absolute}
 use Rattle.rules.specs.Encode.{encode}
-use Rattle.rules.specs.Resolve.{asBase, resolve, fits}
-use Rattle.rules.specs.Text.{uriText}
-use Rattle.rules.specs.Options.{options, optionsFrom, coapScheme}
-use Rattle.rules.specs.Writing.{allTexts, counted, inside, placeless}
+use Rattle.rules.specs.Resolve.{as_base, resolve, fits}
+use Rattle.rules.specs.Text.{uri_text}
+use Rattle.rules.specs.Options.{options, options_from, coap_scheme}
+use Rattle.rules.specs.Writing.{all_texts, counted, inside, placeless}
 
 -- ---- 3.1: an answer in numbers
 
@@ -45,20 +45,20 @@ after (ok w) room = cond (ltb (length room) (length w)) room (w ++ drop (length 
 -- ---- the calls, and the output of those that write: 3.8 has the places; 10 comes last, in `outcome`
 
 -- 9.5: 1 to 7, or the components
-unfoldable pub readCall : Limits → Bytes → Res Components
-readCall lim bs = read lim bs >>= λ f. ok (components bs f)
+unfoldable pub read_call : Limits → Bytes → Res Components
+read_call lim bs = read lim bs >>= λ f. ok (components bs f)
 
 -- 3.3: 8 for the base, then the reference's 1 to 7, then 9
-unfoldable pub resolveCall : Limits → Bytes → Bytes → Res Bytes
-resolveCall lim base ref = do
-  b ← asBase (readAbsolute lim base)
-  r ← readReference lim ref
+unfoldable pub resolve_call : Limits → Bytes → Bytes → Res Bytes
+resolve_call lim base ref = do
+  b ← as_base (read_absolute lim base)
+  r ← read_reference lim ref
   need (fits lim (resolve b r)) RESULT 0
   ok (encode (reference (resolve b r)))
 
 -- 3.4: 1 to 7, then 8 if not absolute
-unfoldable pub textCall : Limits → Bytes → Res Bytes
-textCall lim bs = readAbsolute lim bs >>= λ c. ok (uriText c)
+unfoldable pub text_call : Limits → Bytes → Res Bytes
+text_call lim bs = read_absolute lim bs >>= λ c. ok (uri_text c)
 
 -- it is not set
 abbrev pub absent : {A : Type 0} → Option A → Bool
@@ -66,18 +66,18 @@ absent none = true
 absent (some a) = false
 
 -- 3.5: 12, then 1 to 7, then 8 if not absolute, then 11
-unfoldable pub optionsCall : Limits → Bytes → Bytes → ℕ → Res Bytes
-optionsCall lim bs toAddress toPort = do
-  need (addressSize (length toAddress)) DEST 0
-  c ← readAbsolute lim bs
-  s ← given (coapScheme c.scheme) COAP 0
+unfoldable pub options_call : Limits → Bytes → Bytes → ℕ → Res Bytes
+options_call lim bs toAddress toPort = do
+  need (address_size (length toAddress)) DEST 0
+  c ← read_absolute lim bs
+  s ← given (coap_scheme c.scheme) COAP 0
   need (absent c.fragment) COAP 0
-  ok (optionsFrom 0 (options c s toAddress toPort))
+  ok (options_from 0 (options c s toAddress toPort))
 
 -- 9.2: 4; 9.3: then the number that the reader has for the encoding
-unfoldable pub writeCall : Limits → Components → Bytes → Res Bytes
-writeCall lim c lent = do
+unfoldable pub write_call : Limits → Components → Bytes → Res Bytes
+write_call lim c lent = do
   need (counted lim c) LIMIT 0
-  need (all (inside lent) (allTexts c)) LIMIT 0
-  placeless (read lim (encode (mapParts (taken lent) c)))
-  ok (encode (mapParts (taken lent) c))
+  need (all (inside lent) (all_texts c)) LIMIT 0
+  placeless (read lim (encode (map_parts (taken lent) c)))
+  ok (encode (map_parts (taken lent) c))

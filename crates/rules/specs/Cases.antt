@@ -5,17 +5,17 @@ use Rattle.std.proofs.Math.Option.{Option, none, some}
 use Rattle.rules.specs.Bytes.{Bytes, ascii, hex, concat}
 use Rattle.rules.specs.Result.{Res, refused, ok, ◌>>=◌}
 use Rattle.rules.specs.Model.{Span, limits}
-use Rattle.rules.specs.Head.{Array, headBytes}
-use Rattle.rules.specs.Rules.{labelByte}
+use Rattle.rules.specs.Head.{Array, head_bytes}
+use Rattle.rules.specs.Rules.{label_byte}
 use Rattle.rules.specs.Reader.{Found, read}
 use Rattle.rules.specs.Meaning.{span}
 use Rattle.rules.specs.Text.{Class, Label, Segment, Parameter, Fragment, escape}
-use Rattle.rules.specs.Address.{ipv6Text}
-use Rattle.rules.specs.ReadAddress.{readAddress}
-use Rattle.rules.specs.Options.{CoapOption, option, readOptions}
-use Rattle.rules.specs.Amended.{earlierByte}
-use Rattle.rules.specs.Calls.{resolveCall, textCall, optionsCall}
-use Rattle.rules.specs.Views.{segmentView, Piece, ofReference, ofBase, authorityView, segmentShown, pieceShown, verdict}
+use Rattle.rules.specs.Address.{ipv6_text}
+use Rattle.rules.specs.ReadAddress.{read_address}
+use Rattle.rules.specs.Options.{CoapOption, option, read_options}
+use Rattle.rules.specs.Amended.{earlier_byte}
+use Rattle.rules.specs.Calls.{resolve_call, text_call, options_call}
+use Rattle.rules.specs.Views.{segment_view, Piece, of_reference, of_base, authority_view, segment_shown, piece_shown, verdict}
 
 -- ---- rows
 
@@ -36,8 +36,8 @@ gives s w t = record { input = hex s; result = ok w; text = ok (ascii t) }
 -- what the calls answer for a row's reference
 abbrev pub answered : Bytes → Row → Row
 answered base r =
-    let w : Res Bytes = resolveCall limits base r.input in
-    record { input = r.input; result = w; text = w >>= textCall limits }
+    let w : Res Bytes = resolve_call limits base r.input in
+    record { input = r.input; result = w; text = w >>= text_call limits }
 
 -- every row is what the calls answer
 abbrev pub AllHold : Bytes → List Row → Type 0
@@ -93,8 +93,8 @@ unstarred =
 -- ---- 11.4: two slips, against a base with the path "p", the query "q" and the fragment "f"
 
 -- coap://h/p?q#f
-abbrev pub longBase : Bytes
-longBase = hex "85 20 81 61 68 81 61 70 81 61 71 61 66"
+abbrev pub long_base : Bytes
+long_base = hex "85 20 81 61 68 81 61 70 81 61 71 61 66"
 
 -- each row with the slip that it shows
 unfoldable pub slips : List Row
@@ -129,17 +129,17 @@ pub record Refusal : Type 0 where
   pub place : ℕ
 
 -- the reader's answer as such a row; 0 at 0 where it accepts
-abbrev pub refusedAs : Bytes → Res Found → Refusal
-refusedAs bs (refused n k) = record { input = bs; number = n; place = k }
-refusedAs bs (ok f) = record { input = bs; number = 0; place = 0 }
+abbrev pub refused_as : Bytes → Res Found → Refusal
+refused_as bs (refused n k) = record { input = bs; number = n; place = k }
+refused_as bs (ok f) = record { input = bs; number = 0; place = 0 }
 
 -- what the reader answers
-abbrev pub answeredRefusal : Refusal → Refusal
-answeredRefusal r = refusedAs r.input (read limits r.input)
+abbrev pub answered_refusal : Refusal → Refusal
+answered_refusal r = refused_as r.input (read limits r.input)
 
 -- the input is refused with n at k
-abbrev pub refusedAt : String → ℕ → ℕ → Refusal
-refusedAt s n k = record { input = hex s; number = n; place = k }
+abbrev pub refused_at : String → ℕ → ℕ → Refusal
+refused_at s n k = record { input = hex s; number = n; place = k }
 
 -- n texts "a", one after the other
 abbrev pub row : ℕ → Bytes
@@ -153,88 +153,88 @@ long n = hex "78" ++ (n ∷ replicate n 0x61)
 unfoldable pub refusals : List Refusal
 refusals =
     -- a missing item is cut at the input's length; a kind, then a long head; the outer count at the range step
-    refusedAt "81" 1 1
-    ∷ refusedAt "85 F4" 2 1
-    ∷ refusedAt "81 F7" 2 1
-    ∷ refusedAt "81 C0" 2 1
-    ∷ refusedAt "A0" 2 0
-    ∷ refusedAt "81 1C" 3 1
-    ∷ refusedAt "82 18 17" 3 1
-    ∷ refusedAt "98" 1 0
-    ∷ refusedAt "98 06" 3 0
-    ∷ refusedAt "98 18" 2 0
-    ∷ refusedAt "86" 2 0
+    refused_at "81" 1 1
+    ∷ refused_at "85 F4" 2 1
+    ∷ refused_at "81 F7" 2 1
+    ∷ refused_at "81 C0" 2 1
+    ∷ refused_at "A0" 2 0
+    ∷ refused_at "81 1C" 3 1
+    ∷ refused_at "82 18 17" 3 1
+    ∷ refused_at "98" 1 0
+    ∷ refused_at "98 06" 3 0
+    ∷ refused_at "98 18" 2 0
+    ∷ refused_at "86" 2 0
     -- of one text: length, content cut, UTF-8, rule
-    ∷ refusedAt "82 71" 4 1
-    ∷ refusedAt "82 62 FF" 1 1
-    ∷ refusedAt "82 62 41 FF" 5 1
-    ∷ refusedAt "82 62 41 41" 6 1
+    ∷ refused_at "82 71" 4 1
+    ∷ refused_at "82 62 FF" 1 1
+    ∷ refused_at "82 62 41 FF" 5 1
+    ∷ refused_at "82 62 41 41" 6 1
     -- the opening's own checks before the number of items
-    ∷ refusedAt "81 22" 6 1
-    ∷ refusedAt "81 25" 6 1
-    ∷ refusedAt "81 2A" 6 1
-    ∷ refusedAt "81 3A FF FF FF FF" 6 1
-    ∷ refusedAt "81 3B 00 00 00 01 00 00 00 00" 6 1
-    ∷ refusedAt "81 64 63 6F 61 70" 6 1
-    ∷ refusedAt "85 18 80" 4 1
-    ∷ refusedAt "81 18 00" 3 1
-    ∷ refusedAt "85 00" 2 1
-    ∷ refusedAt "85 F5" 2 1
-    ∷ refusedAt "81 20" 2 1
-    ∷ refusedAt "81 00" 2 1
+    ∷ refused_at "81 22" 6 1
+    ∷ refused_at "81 25" 6 1
+    ∷ refused_at "81 2A" 6 1
+    ∷ refused_at "81 3A FF FF FF FF" 6 1
+    ∷ refused_at "81 3B 00 00 00 01 00 00 00 00" 6 1
+    ∷ refused_at "81 64 63 6F 61 70" 6 1
+    ∷ refused_at "85 18 80" 4 1
+    ∷ refused_at "81 18 00" 3 1
+    ∷ refused_at "85 00" 2 1
+    ∷ refused_at "85 F5" 2 1
+    ∷ refused_at "81 20" 2 1
+    ∷ refused_at "81 00" 2 1
     -- a final null; an empty query
-    ∷ refusedAt "82 00 F6" 2 2
-    ∷ refusedAt "83 00 F6 80" 4 3
+    ∷ refused_at "82 00 F6" 2 2
+    ∷ refused_at "83 00 F6 80" 4 3
     -- authorities: a number first, an item after the port, no item, a ninth label, the IPv4 look
-    ∷ refusedAt "82 20 81 05" 2 3
-    ∷ refusedAt "82 20 83 61 61 00 61" 2 6
-    ∷ refusedAt "82 20 83 61 61 00" 1 6
-    ∷ refusedAt "82 20 83 61 61 00 1C" 2 6
-    ∷ refusedAt "82 20 83 61 61 00 18" 2 6
-    ∷ refusedAt "82 20 83 61 61 00 18 17" 2 6
-    ∷ refusedAt "82 20 80" 4 2
-    ∷ refusedAt "82 20 89 61 61 61 61 61 61 61 61 61 61 61 61 61 61 61 61 61" 4 19
-    ∷ refusedAt "82 20 89 61 61 61 61 61 61 61 61 61 61 61 61 61 61 61 61 7F" 3 19
-    ∷ refusedAt "82 20 84 61 31 61 32 61 33 61 34" 6 2
-    ∷ refusedAt "82 20 84 61 30 62 39 39 63 31 30 30 63 32 35 35" 6 2
-    ∷ refusedAt "82 20 85 61 31 61 32 61 33 61 34 1A 00 01 00 00" 4 11
+    ∷ refused_at "82 20 81 05" 2 3
+    ∷ refused_at "82 20 83 61 61 00 61" 2 6
+    ∷ refused_at "82 20 83 61 61 00" 1 6
+    ∷ refused_at "82 20 83 61 61 00 1C" 2 6
+    ∷ refused_at "82 20 83 61 61 00 18" 2 6
+    ∷ refused_at "82 20 83 61 61 00 18 17" 2 6
+    ∷ refused_at "82 20 80" 4 2
+    ∷ refused_at "82 20 89 61 61 61 61 61 61 61 61 61 61 61 61 61 61 61 61 61" 4 19
+    ∷ refused_at "82 20 89 61 61 61 61 61 61 61 61 61 61 61 61 61 61 61 61 7F" 3 19
+    ∷ refused_at "82 20 84 61 31 61 32 61 33 61 34" 6 2
+    ∷ refused_at "82 20 84 61 30 62 39 39 63 31 30 30 63 32 35 35" 6 2
+    ∷ refused_at "82 20 85 61 31 61 32 61 33 61 34 1A 00 01 00 00" 4 11
     -- sizes: an address, a port, an authority; a label, labels with their dots; a segment, parameters, a fragment
-    ∷ refusedAt "82 20 81 43 00 00 00" 4 3
-    ∷ refusedAt "82 20 82 61 61 1A 00 01 00 00" 4 5
-    ∷ refusedAt "82 20 8A" 4 2
-    ∷ refusedAt "82 20 81 60" 4 3
-    ∷ refusedAt "82 20 81 78 40" 4 3
+    ∷ refused_at "82 20 81 43 00 00 00" 4 3
+    ∷ refused_at "82 20 82 61 61 1A 00 01 00 00" 4 5
+    ∷ refused_at "82 20 8A" 4 2
+    ∷ refused_at "82 20 81 60" 4 3
+    ∷ refused_at "82 20 81 78 40" 4 3
     ∷ record { input = hex "82 20 85" ++ long 63 ++ long 63 ++ long 63 ++ long 62 ++ row 1; number = 6; place = 2 }
-    ∷ refusedAt "82 00 81 79 01 00" 4 3
-    ∷ refusedAt "83 00 F6 91" 4 3
-    ∷ refusedAt "83 00 F6 81 79 01 00" 4 4
-    ∷ refusedAt "84 00 F6 F6 79 01 00" 4 4
+    ∷ refused_at "82 00 81 79 01 00" 4 3
+    ∷ refused_at "83 00 F6 91" 4 3
+    ∷ refused_at "83 00 F6 81 79 01 00" 4 4
+    ∷ refused_at "84 00 F6 F6 79 01 00" 4 4
     -- a scheme that is empty, that begins with a digit, that has a byte beside its ranges
-    ∷ refusedAt "82 60" 4 1
-    ∷ refusedAt "82 61 31" 6 1
-    ∷ refusedAt "82 63 61 5F 62 81 61 61" 6 1
-    ∷ refusedAt "82 62 61 60" 6 1
-    ∷ refusedAt "82 62 61 7B" 6 1
-    ∷ refusedAt "82 62 61 2F" 6 1
-    ∷ refusedAt "82 62 61 3A" 6 1
+    ∷ refused_at "82 60" 4 1
+    ∷ refused_at "82 61 31" 6 1
+    ∷ refused_at "82 63 61 5F 62 81 61 61" 6 1
+    ∷ refused_at "82 62 61 60" 6 1
+    ∷ refused_at "82 62 61 7B" 6 1
+    ∷ refused_at "82 62 61 2F" 6 1
+    ∷ refused_at "82 62 61 3A" 6 1
     -- "Z", "." and "[" as a label, "[::1]", "]" after another label, after a bracket no UTF-8, after three octets; "." as a segment
-    ∷ refusedAt "82 20 81 61 5A" 6 3
-    ∷ refusedAt "82 20 81 61 2E" 6 3
-    ∷ refusedAt "82 20 81 61 5B" 6 3
-    ∷ refusedAt "82 20 81 65 5B 3A 3A 31 5D" 6 3
-    ∷ refusedAt "82 20 82 61 61 61 5D" 6 5
-    ∷ refusedAt "82 20 81 62 5B FF" 5 3
-    ∷ refusedAt "82 20 84 61 31 61 32 61 33 61 5D" 6 9
-    ∷ refusedAt "82 00 81 61 2E" 6 3
+    ∷ refused_at "82 20 81 61 5A" 6 3
+    ∷ refused_at "82 20 81 61 2E" 6 3
+    ∷ refused_at "82 20 81 61 5B" 6 3
+    ∷ refused_at "82 20 81 65 5B 3A 3A 31 5D" 6 3
+    ∷ refused_at "82 20 82 61 61 61 5D" 6 5
+    ∷ refused_at "82 20 81 62 5B FF" 5 3
+    ∷ refused_at "82 20 84 61 31 61 32 61 33 61 5D" 6 9
+    ∷ refused_at "82 00 81 61 2E" 6 3
     -- UTF-8: an overlong form, a surrogate, a number over 10FFFF, a byte that leads nothing
-    ∷ refusedAt "82 00 81 63 E0 9F BF" 5 3
-    ∷ refusedAt "82 00 81 63 ED A0 80" 5 3
-    ∷ refusedAt "82 00 81 64 F0 8F BF BF" 5 3
-    ∷ refusedAt "82 00 81 64 F4 90 80 80" 5 3
-    ∷ refusedAt "82 00 81 62 C1 BF" 5 3
-    ∷ refusedAt "82 00 81 64 F5 80 80 80" 5 3
+    ∷ refused_at "82 00 81 63 E0 9F BF" 5 3
+    ∷ refused_at "82 00 81 63 ED A0 80" 5 3
+    ∷ refused_at "82 00 81 64 F0 8F BF BF" 5 3
+    ∷ refused_at "82 00 81 64 F4 90 80 80" 5 3
+    ∷ refused_at "82 00 81 62 C1 BF" 5 3
+    ∷ refused_at "82 00 81 64 F5 80 80 80" 5 3
     -- bytes after the array
-    ∷ refusedAt "80 00" 7 1
+    ∷ refused_at "80 00" 7 1
     ∷ []
 
 -- ---- 11.7: accepted inputs
@@ -283,8 +283,8 @@ unfoldable pub sizes : List Refusal
 sizes =
     record { input = replicate (limits.bytes + 1) 0; number = 4; place = limits.bytes }
     ∷ record { input = replicate limits.bytes 0; number = 2; place = 0 }
-    ∷ record { input = hex "82 00" ++ headBytes Array (limits.segments + 1); number = 4; place = 2 }
-    ∷ accepts (hex "82 00" ++ headBytes Array limits.segments ++ row limits.segments)
+    ∷ record { input = hex "82 00" ++ head_bytes Array (limits.segments + 1); number = 4; place = 2 }
+    ∷ accepts (hex "82 00" ++ head_bytes Array limits.segments ++ row limits.segments)
     ∷ []
 
 -- ---- 11.8: texts
@@ -299,8 +299,8 @@ abbrev pub prints : String → String → Text
 prints s t = record { input = hex s; result = ok (ascii t) }
 
 -- what the call answers
-abbrev pub answeredText : Text → Text
-answeredText t = record { input = t.input; result = textCall limits t.input }
+abbrev pub answered_text : Text → Text
+answered_text t = record { input = t.input; result = text_call limits t.input }
 
 -- the name of each scheme; four labels that are no IPv4 address; every part; addresses; two that are not absolute; one that is refused
 unfoldable pub texts : List Text
@@ -352,8 +352,8 @@ abbrev pub escapes : Class → String → Escaped
 escapes k t = record { class = k; text = control ++ ascii t ++ high }
 
 -- what is written
-abbrev pub answeredEscape : Escaped → Escaped
-answeredEscape e = record { class = e.class; text = escape e.class (counting 0 256) }
+abbrev pub answered_escape : Escaped → Escaped
+answered_escape e = record { class = e.class; text = escape e.class (counting 0 256) }
 
 -- one text for each part of a URI
 unfoldable pub escaped : List Escaped
@@ -378,16 +378,16 @@ abbrev pub request : Bytes → ℕ → Bytes → Request
 request bs port w = record { input = bs; address = hex "C6 33 64 01"; port = port; result = ok w }
 
 -- to another address, and port 5683
-abbrev pub requestTo : String → String → Bytes → Request
-requestTo s a w = record { input = hex s; address = hex a; port = 5683; result = ok w }
+abbrev pub request_to : String → String → Bytes → Request
+request_to s a w = record { input = hex s; address = hex a; port = 5683; result = ok w }
 
 -- to 198.51.100.1 and port 5683, refused with n at k
 abbrev pub unrequested : String → ℕ → ℕ → Request
 unrequested s n k = record { input = hex s; address = hex "C6 33 64 01"; port = 5683; result = refused n k }
 
 -- what the call answers
-abbrev pub answeredRequest : Request → Request
-answeredRequest r = record { input = r.input; address = r.address; port = r.port; result = optionsCall limits r.input r.address r.port }
+abbrev pub answered_request : Request → Request
+answered_request r = record { input = r.input; address = r.address; port = r.port; result = options_call limits r.input r.address r.port }
 
 -- each with what is special about it
 unfoldable pub requests : List Request
@@ -419,8 +419,8 @@ requests =
     ∷ request (hex "82 29 81 44 C6 33 64 01") 443 []
     ∷ request (hex "82 29 81 44 C6 33 64 01") 444 (hex "72 01 BB")
     -- to an IPv4-mapped address: the same, the IPv4 address in it
-    ∷ requestTo "82 20 81 50 00 00 00 00 00 00 00 00 00 00 FF FF C0 00 02 01" "00 00 00 00 00 00 00 00 00 00 FF FF C0 00 02 01" []
-    ∷ requestTo "82 20 81 44 C0 00 02 01" "00 00 00 00 00 00 00 00 00 00 FF FF C0 00 02 01" (hex "39" ++ ascii "192.0.2.1")
+    ∷ request_to "82 20 81 50 00 00 00 00 00 00 00 00 00 00 FF FF C0 00 02 01" "00 00 00 00 00 00 00 00 00 00 FF FF C0 00 02 01" []
+    ∷ request_to "82 20 81 44 C0 00 02 01" "00 00 00 00 00 00 00 00 00 00 FF FF C0 00 02 01" (hex "39" ++ ascii "192.0.2.1")
     -- refusals: the address, before the input; the input; not absolute; a scheme that is a text; a fragment
     ∷ record { input = hex "81 00"; address = hex "C6 33 64"; port = 5683; result = refused 12 0 }
     ∷ unrequested "81 00" 2 1
@@ -441,8 +441,8 @@ abbrev pub ipv6 : String → String → Ipv6
 ipv6 a t = record { address = hex a; text = ascii t }
 
 -- what is printed
-abbrev pub ipv6Printed : Ipv6 → Ipv6
-ipv6Printed x = record { address = x.address; text = ipv6Text x.address }
+abbrev pub ipv6_printed : Ipv6 → Ipv6
+ipv6_printed x = record { address = x.address; text = ipv6_text x.address }
 
 -- RFC 5952, sections 4 and 5
 unfoldable pub addresses : List Ipv6
@@ -479,41 +479,41 @@ abbrev pub says : String → String → Said
 says t a = record { text = ascii t; address = some (hex a) }
 
 -- the text is no address
-abbrev pub saysNone : String → Said
-saysNone t = record { text = ascii t; address = none }
+abbrev pub says_none : String → Said
+says_none t = record { text = ascii t; address = none }
 
 -- what is read
-abbrev pub answeredSaid : Said → Said
-answeredSaid s = record { text = s.text; address = readAddress s.text }
+abbrev pub answered_said : Said → Said
+answered_said s = record { text = s.text; address = read_address s.text }
 
 -- RULES 6.7
-unfoldable pub saidAddresses : List Said
-saidAddresses =
+unfoldable pub said_addresses : List Said
+said_addresses =
     says "198.51.100.1" "C6 33 64 01"
     ∷ says "[2001:db8::1:0:0:1]" "20 01 0D B8 00 00 00 00 00 01 00 00 00 00 00 01"
     ∷ says "[::]" "00 00 00 00 00 00 00 00 00 00 00 00 00 00 00 00"
     ∷ says "[::ffff:192.0.2.1]" "00 00 00 00 00 00 00 00 00 00 FF FF C0 00 02 01"
     ∷ says "[::ffff:0.0.0.0]" "00 00 00 00 00 00 00 00 00 00 FF FF 00 00 00 00"
     -- other forms of an IPv4-mapped address; the mixed form of others; decimals that are no bytes, or too few
-    ∷ saysNone "[::ffff:c000:201]"
-    ∷ saysNone "[::FFFF:192.0.2.1]"
-    ∷ saysNone "[0:0:0:0:0:ffff:192.0.2.1]"
-    ∷ saysNone "[::192.0.2.1]"
-    ∷ saysNone "[::fffe:192.0.2.1]"
-    ∷ saysNone "[::ffff:192.0.2.256]"
-    ∷ saysNone "[::ffff:192.0.2.01]"
-    ∷ saysNone "[::ffff:192.0.2]"
+    ∷ says_none "[::ffff:c000:201]"
+    ∷ says_none "[::FFFF:192.0.2.1]"
+    ∷ says_none "[0:0:0:0:0:ffff:192.0.2.1]"
+    ∷ says_none "[::192.0.2.1]"
+    ∷ says_none "[::fffe:192.0.2.1]"
+    ∷ says_none "[::ffff:192.0.2.256]"
+    ∷ says_none "[::ffff:192.0.2.01]"
+    ∷ says_none "[::ffff:192.0.2]"
     -- brackets that are missing, or too many; other forms of hex groups; decimals that are no IPv4 address; no digits
-    ∷ saysNone "::1"
-    ∷ saysNone "[::1"
-    ∷ saysNone "[::1]]"
-    ∷ saysNone "[0::1]"
-    ∷ saysNone "[2001:DB8::1]"
-    ∷ saysNone "1.2.3"
-    ∷ saysNone "1.2.3.04"
-    ∷ saysNone "1.2.3.256"
-    ∷ saysNone "a"
-    ∷ saysNone ""
+    ∷ says_none "::1"
+    ∷ says_none "[::1"
+    ∷ says_none "[::1]]"
+    ∷ says_none "[0::1]"
+    ∷ says_none "[2001:DB8::1]"
+    ∷ says_none "1.2.3"
+    ∷ says_none "1.2.3.04"
+    ∷ says_none "1.2.3.256"
+    ∷ says_none "a"
+    ∷ says_none ""
     ∷ []
 
 -- ---- 11.6: option bytes, read back
@@ -532,8 +532,8 @@ abbrev pub fault : String → Coding
 fault s = record { input = hex s; options = none }
 
 -- what is read
-abbrev pub answeredCoding : Coding → Coding
-answeredCoding c = record { input = c.input; options = readOptions c.input }
+abbrev pub answered_coding : Coding → Coding
+answered_coding c = record { input = c.input; options = read_options c.input }
 
 -- each with what is special about it
 unfoldable pub codings : List Coding
@@ -570,22 +570,22 @@ pub record SegmentRow : Type 0 where
   pub part : Span
 
 -- the n-th segment of the input
-abbrev pub segmentOf : String → ℕ → Res (Unit {0}) → Span → SegmentRow
-segmentOf s n v p = record { input = hex s; nth = n; told = v; part = p }
+abbrev pub segment_of : String → ℕ → Res (Unit {0}) → Span → SegmentRow
+segment_of s n v p = record { input = hex s; nth = n; told = v; part = p }
 
 -- what the view gives
-abbrev pub answeredSegment : SegmentRow → SegmentRow
-answeredSegment r =
-    let v : Res Span = segmentView limits r.input r.nth in
-    record { input = r.input; nth = r.nth; told = verdict v; part = segmentShown v }
+abbrev pub answered_segment : SegmentRow → SegmentRow
+answered_segment r =
+    let v : Res Span = segment_view limits r.input r.nth in
+    record { input = r.input; nth = r.nth; told = verdict v; part = segment_shown v }
 
 -- an empty segment and one after it; none; a refused input
-unfoldable pub segmentRows : List SegmentRow
-segmentRows =
-    segmentOf "82 00 82 60 61 61" 0 (ok tt) (span 4 0)
-    ∷ segmentOf "82 00 82 60 61 61" 1 (ok tt) (span 5 1)
-    ∷ segmentOf "82 00 82 60 61 61" 2 (refused 18 0) (span 0 0)
-    ∷ segmentOf "81 00" 0 (refused 2 1) (span 0 0)
+unfoldable pub segment_rows : List SegmentRow
+segment_rows =
+    segment_of "82 00 82 60 61 61" 0 (ok tt) (span 4 0)
+    ∷ segment_of "82 00 82 60 61 61" 1 (ok tt) (span 5 1)
+    ∷ segment_of "82 00 82 60 61 61" 2 (refused 18 0) (span 0 0)
+    ∷ segment_of "81 00" 0 (refused 2 1) (span 0 0)
     ∷ []
 
 -- a base and a reference, and the verdict and the part that the view of the authority gives
@@ -596,27 +596,27 @@ pub record AuthorityRow : Type 0 where
   pub part : Piece
 
 -- of this reference against B
-abbrev pub authorityOf : String → Res (Unit {0}) → Piece → AuthorityRow
-authorityOf s v p = record { base = B; input = hex s; told = v; part = p }
+abbrev pub authority_of : String → Res (Unit {0}) → Piece → AuthorityRow
+authority_of s v p = record { base = B; input = hex s; told = v; part = p }
 
 -- against a base that is refused, or not absolute: 8 at k, before the reference's own refusal
-abbrev pub noAuthority : Bytes → ℕ → AuthorityRow
-noAuthority base k = record { base = base; input = hex "81 00"; told = refused 8 k; part = ofReference (span 0 0) }
+abbrev pub no_authority : Bytes → ℕ → AuthorityRow
+no_authority base k = record { base = base; input = hex "81 00"; told = refused 8 k; part = of_reference (span 0 0) }
 
 -- what the view gives
-abbrev pub answeredAuthority : AuthorityRow → AuthorityRow
-answeredAuthority r =
-    let v : Res Piece = authorityView limits r.base r.input in
-    record { base = r.base; input = r.input; told = verdict v; part = pieceShown v }
+abbrev pub answered_authority : AuthorityRow → AuthorityRow
+answered_authority r =
+    let v : Res Piece = authority_view limits r.base r.input in
+    record { base = r.base; input = r.input; told = verdict v; part = piece_shown v }
 
 -- the base's; the reference's own; a refused reference; a refused base, and one that is not absolute
-unfoldable pub authorityRows : List AuthorityRow
-authorityRows =
-    authorityOf "80" (ok tt) (ofBase (span 2 9))
-    ∷ authorityOf "82 F6 81 61 61" (ok tt) (ofReference (span 2 3))
-    ∷ authorityOf "81 00" (refused 2 1) (ofReference (span 0 0))
-    ∷ noAuthority (hex "82 20 81 61 41") 3
-    ∷ noAuthority (hex "80") 0
+unfoldable pub authority_rows : List AuthorityRow
+authority_rows =
+    authority_of "80" (ok tt) (of_base (span 2 9))
+    ∷ authority_of "82 F6 81 61 61" (ok tt) (of_reference (span 2 3))
+    ∷ authority_of "81 00" (refused 2 1) (of_reference (span 0 0))
+    ∷ no_authority (hex "82 20 81 61 41") 3
+    ∷ no_authority (hex "80") 0
     ∷ []
 
 -- ---- 11.11: bases that are refused, with their places
@@ -627,24 +627,24 @@ pub record Based : Type 0 where
   pub result : Res Bytes
 
 -- 8 at k
-abbrev pub refusedBase : Bytes → ℕ → Based
-refusedBase base k = record { base = base; result = refused 8 k }
+abbrev pub refused_base : Bytes → ℕ → Based
+refused_base base k = record { base = base; result = refused 8 k }
 
 -- what the call answers
-abbrev pub answeredBase : Based → Based
-answeredBase b = record { base = b.base; result = resolveCall limits b.base (hex "81 00") }
+abbrev pub answered_base : Based → Based
+answered_base b = record { base = b.base; result = resolve_call limits b.base (hex "81 00") }
 
 -- cut at its length; a discard; a label; the rules over all labels; bytes after the array; not absolute, without and with an authority
 unfoldable pub bases : List Based
 bases =
-    refusedBase [] 0
-    ∷ refusedBase (hex "82 20") 2
-    ∷ refusedBase (hex "81 18 80") 1
-    ∷ refusedBase (hex "82 20 81 61 41") 3
-    ∷ refusedBase (hex "82 20 84 61 31 61 32 61 33 61 34") 2
-    ∷ refusedBase (hex "82 20 81 61 61 00") 5
-    ∷ refusedBase (hex "80") 0
-    ∷ refusedBase (hex "82 F6 81 61 61") 0
+    refused_base [] 0
+    ∷ refused_base (hex "82 20") 2
+    ∷ refused_base (hex "81 18 80") 1
+    ∷ refused_base (hex "82 20 81 61 41") 3
+    ∷ refused_base (hex "82 20 84 61 31 61 32 61 33 61 34") 2
+    ∷ refused_base (hex "82 20 81 61 61 00") 5
+    ∷ refused_base (hex "80") 0
+    ∷ refused_base (hex "82 F6 81 61 61") 0
     ∷ []
 
 -- ---- 11.12: bytes of labels, by the rule as it was and as it is
@@ -660,12 +660,12 @@ abbrev pub labelled : ℕ → Bool → Bool → LabelByte
 labelled b was is = record { byte = b; before = was; since = is }
 
 -- by both definitions
-abbrev pub answeredByte : LabelByte → LabelByte
-answeredByte l = record { byte = l.byte; before = earlierByte l.byte; since = labelByte l.byte }
+abbrev pub answered_byte : LabelByte → LabelByte
+answered_byte l = record { byte = l.byte; before = earlier_byte l.byte; since = label_byte l.byte }
 
 -- the brackets, which the amendment takes away, the bytes beside them; both ends of A to Z, the bytes beside them; "."
-unfoldable pub labelBytes : List LabelByte
-labelBytes =
+unfoldable pub label_bytes : List LabelByte
+label_bytes =
     labelled 0x5B true false
     ∷ labelled 0x5D true false
     ∷ labelled 0x5C true true

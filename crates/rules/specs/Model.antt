@@ -25,7 +25,7 @@ pub record Authority (A : Type 0) : Type 0 where
 -- lack the authority too; the reader refuses what is written from those.
 pub data Opening (A : Type 0) : Type 0 where
   discard : ℕ → Opening A
-  discardAll : Opening A
+  discard_all : Opening A
   full : Option (Scheme A) → Option (Authority A) → Opening A
 
 -- RULES 1.4: null, or an item left off at the end, is none; an empty path array is some []
@@ -51,30 +51,30 @@ Components = Parts Span
 -- the same parts, each text or address given in another way
 
 -- of a scheme
-abbrev pub mapScheme : {A B : Type 0} → (A → B) → Scheme A → Scheme B
-mapScheme f (number n) = number n
-mapScheme f (name t) = name (f t)
+abbrev pub map_scheme : {A B : Type 0} → (A → B) → Scheme A → Scheme B
+map_scheme f (number n) = number n
+map_scheme f (name t) = name (f t)
 
 -- of a host
-abbrev pub mapHost : {A B : Type 0} → (A → B) → Host A → Host B
-mapHost f (address a) = address (f a)
-mapHost f (labels ts) = labels (map f ts)
+abbrev pub map_host : {A B : Type 0} → (A → B) → Host A → Host B
+map_host f (address a) = address (f a)
+map_host f (labels ts) = labels (map f ts)
 
 -- of an authority
-abbrev pub mapAuthority : {A B : Type 0} → (A → B) → Authority A → Authority B
-mapAuthority f a = record { host = mapHost f a.host; port = a.port }
+abbrev pub map_authority : {A B : Type 0} → (A → B) → Authority A → Authority B
+map_authority f a = record { host = map_host f a.host; port = a.port }
 
 -- of an opening
-abbrev pub mapOpening : {A B : Type 0} → (A → B) → Opening A → Opening B
-mapOpening f (discard k) = discard k
-mapOpening f discardAll = discardAll
-mapOpening f (full s a) = full (Option.map (mapScheme f) s) (Option.map (mapAuthority f) a)
+abbrev pub map_opening : {A B : Type 0} → (A → B) → Opening A → Opening B
+map_opening f (discard k) = discard k
+map_opening f discard_all = discard_all
+map_opening f (full s a) = full (Option.map (map_scheme f) s) (Option.map (map_authority f) a)
 
 -- of the whole
-abbrev pub mapParts : {A B : Type 0} → (A → B) → Parts A → Parts B
-mapParts f r =
+abbrev pub map_parts : {A B : Type 0} → (A → B) → Parts A → Parts B
+map_parts f r =
     record {
-      opening = mapOpening f r.opening;
+      opening = map_opening f r.opening;
       path = Option.map (map f) r.path;
       query = Option.map (map f) r.query;
       fragment = Option.map f r.fragment;
@@ -90,12 +90,12 @@ abbrev pub limits : Limits
 limits = record { bytes = 4096; segments = 160 }
 
 -- 2.3: how many parameters a query may have
-abbrev pub mostParameters : ℕ
-mostParameters = 16
+abbrev pub most_parameters : ℕ
+most_parameters = 16
 
 -- 2.5: how many labels an authority may have
-abbrev pub mostLabels : ℕ
-mostLabels = 8
+abbrev pub most_labels : ℕ
+most_labels = 8
 
 -- ---- absolute CRIs
 
@@ -114,37 +114,37 @@ elements (some ts) = ts
 
 -- RULES 1.12: scheme and authority both present and not null
 unfoldable pub absolute : Reference → Option Cri
-absolute r = openedAs r.opening
+absolute r = opened_as r.opening
   where
-    openedAs : Opening Bytes → Option Cri
-    openedAs (discard k) = none
-    openedAs discardAll = none
-    openedAs (full none a) = none
-    openedAs (full (some s) none) = none
-    openedAs (full (some s) (some a)) =
+    opened_as : Opening Bytes → Option Cri
+    opened_as (discard k) = none
+    opened_as discard_all = none
+    opened_as (full none a) = none
+    opened_as (full (some s) none) = none
+    opened_as (full (some s) (some a)) =
         some (record { scheme = s; authority = a; path = elements r.path; query = r.query; fragment = r.fragment })
 
 -- RULES 5.4: an empty path is written as unset
-abbrev pub setPath : List Bytes → Option (List Bytes)
-setPath [] = none
-setPath (t ∷ ts) = some (t ∷ ts)
+abbrev pub set_path : List Bytes → Option (List Bytes)
+set_path [] = none
+set_path (t ∷ ts) = some (t ∷ ts)
 
 -- the reference that a CRI is written as
 unfoldable pub reference : Cri → Reference
 reference c =
-    record { opening = full (some c.scheme) (some c.authority); path = setPath c.path; query = c.query; fragment = c.fragment }
+    record { opening = full (some c.scheme) (some c.authority); path = set_path c.path; query = c.query; fragment = c.fragment }
 
 -- RULES 5.0, 5.4, 6.1, 8.4: a path of one empty segment counts as no path
-unfoldable pub normalPath : List Bytes → List Bytes
-normalPath [] = []
-normalPath ([] ∷ []) = []
-normalPath ([] ∷ (u ∷ ts)) = [] ∷ u ∷ ts
-normalPath ((b ∷ t) ∷ ts) = (b ∷ t) ∷ ts
+unfoldable pub normal_path : List Bytes → List Bytes
+normal_path [] = []
+normal_path ([] ∷ []) = []
+normal_path ([] ∷ (u ∷ ts)) = [] ∷ u ∷ ts
+normal_path ((b ∷ t) ∷ ts) = (b ∷ t) ∷ ts
 
 -- the CRI with its path in that form
 unfoldable pub normal : Cri → Cri
 normal c =
-    record { scheme = c.scheme; authority = c.authority; path = normalPath c.path; query = c.query; fragment = c.fragment }
+    record { scheme = c.scheme; authority = c.authority; path = normal_path c.path; query = c.query; fragment = c.fragment }
 
 -- ---- RULES 8: when two CRIs are the same
 
@@ -157,7 +157,7 @@ pub record Same (a b : Cri) : Type 0 where
   -- 8.3: unset, or its number; a default port written differs from one left off
   pub port : a.authority.port ≡ b.authority.port
   -- 8.4: the segments in order; unset, an empty array and one empty segment are all no path
-  pub path : normalPath a.path ≡ normalPath b.path
+  pub path : normal_path a.path ≡ normal_path b.path
   -- 8.5: unset, or the parameters in order
   pub query : a.query ≡ b.query
   -- 8.6: unset, or its bytes; unset and empty differ

@@ -3,9 +3,9 @@ use Rattle.std.specs.Prelude.{ℕ, ◌+◌, ◌-◌, ◌/◌, ◌%◌, Bool, con
 use mathlib.Core.List.{List, [], ◌∷◌, ◌++◌, map, tail}
 use Rattle.std.proofs.Math.Option.{Option, none, some}
 use Rattle.rules.specs.Bytes.{Bytes, byte, dot, colon, all, member, same, filled, starts, upto, split}
-use Rattle.rules.specs.Rules.{addressSize}
+use Rattle.rules.specs.Rules.{address_size}
 use Rattle.rules.specs.Numeral.{value}
-use Rattle.rules.specs.Address.{mappedStart, leftBracket, rightBracket, addressText}
+use Rattle.rules.specs.Address.{mapped_start, left_bracket, right_bracket, address_text}
 
 -- ---- the address that a text is taken for
 
@@ -38,27 +38,27 @@ unfoldable pub spread : List Bytes → List Bytes → List ℕ
 spread l r = values l ++ (replicate (8 - (length l + length r)) 0 ++ values r)
 
 -- hex groups, zeros at the first "::"
-unfoldable pub hexBytes : Bytes → Bytes
-hexBytes t = let ps : List Bytes = split colon t in ungroup (spread (heads ps) (fulls (rests ps)))
+unfoldable pub hex_bytes : Bytes → Bytes
+hex_bytes t = let ps : List Bytes = split colon t in ungroup (spread (heads ps) (fulls (rests ps)))
 
 -- dotted decimal
-unfoldable pub dottedBytes : Bytes → Bytes
-dottedBytes t = map (value 10) (split dot t)
+unfoldable pub dotted_bytes : Bytes → Bytes
+dotted_bytes t = map (value 10) (split dot t)
 
 -- a text with a dot is that of an IPv4-mapped address, whose decimals stand after "::ffff:"
-unfoldable pub ipv6Bytes : Bytes → Bytes
-ipv6Bytes t = cond (member dot t) (mappedStart ++ dottedBytes (drop 7 t)) (hexBytes t)
+unfoldable pub ipv6_bytes : Bytes → Bytes
+ipv6_bytes t = cond (member dot t) (mapped_start ++ dotted_bytes (drop 7 t)) (hex_bytes t)
 
 -- IPv6 stands in brackets
-unfoldable pub addressBytes : Bytes → Bytes
-addressBytes t = cond (starts leftBracket t) (ipv6Bytes (upto rightBracket (tail t))) (dottedBytes t)
+unfoldable pub address_bytes : Bytes → Bytes
+address_bytes t = cond (starts left_bracket t) (ipv6_bytes (upto right_bracket (tail t))) (dotted_bytes t)
 
 -- ---- 6.7
 
 -- 2.6: the numbers are an address
-unfoldable pub isAddress : Bytes → Bool
-isAddress a = addressSize (length a) && all byte a
+unfoldable pub is_address : Bytes → Bool
+is_address a = address_size (length a) && all byte a
 
 -- the address whose text this is
-unfoldable pub readAddress : Bytes → Option Bytes
-readAddress t = let a : Bytes = addressBytes t in cond (isAddress a && same (addressText a) t) (some a) none
+unfoldable pub read_address : Bytes → Option Bytes
+read_address t = let a : Bytes = address_bytes t in cond (is_address a && same (address_text a) t) (some a) none

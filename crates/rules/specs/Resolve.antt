@@ -3,13 +3,13 @@ use Rattle.std.specs.Prelude.{zero, suc, ◌-◌, Bool, ◌&&◌, List, [], ◌+
 use Rattle.std.proofs.Math.Option.{Option, none, some, get_or}
 use Rattle.rules.specs.Bytes.{Bytes}
 use Rattle.rules.specs.Result.{Res, refused, ok, BASE}
-use Rattle.rules.specs.Model.{Scheme, Authority, Opening, discard, discardAll, full, Reference, Limits, Cri, reference, normalPath, normal}
+use Rattle.rules.specs.Model.{Scheme, Authority, Opening, discard, discard_all, full, Reference, Limits, Cri, reference, normal_path, normal}
 use Rattle.rules.specs.Encode.{encode}
 
 -- 5.0 The base loses its fragment, and a path of one empty segment becomes no path.
 unfoldable pub start : Cri → Cri
 start b =
-    record { scheme = b.scheme; authority = b.authority; path = normalPath b.path; query = b.query; fragment = none }
+    record { scheme = b.scheme; authority = b.authority; path = normal_path b.path; query = b.query; fragment = none }
 
 -- the CRI with this path, query and fragment unset
 abbrev pub cleared : Cri → List Bytes → Cri
@@ -20,7 +20,7 @@ cleared c p = record { scheme = c.scheme; authority = c.authority; path = p; que
 unfoldable pub discarded : Opening Bytes → Cri → Cri
 discarded (discard zero) c = c
 discarded (discard (suc k)) c = cleared c (take (length c.path - suc k) c.path)
-discarded discardAll c = cleared c []
+discarded discard_all c = cleared c []
 discarded (full s a) c = cleared c []
 
 -- 5.2 A set path is appended, and query and fragment are unset, also when it is the empty array.
@@ -34,31 +34,31 @@ or none b = b
 or (some a) b = some a
 
 -- the second, unless the first is set
-abbrev pub unlessSet : {A B : Type 0} → Option A → Option B → Option B
-unlessSet none b = b
-unlessSet (some a) b = none
+abbrev pub unless_set : {A B : Type 0} → Option A → Option B → Option B
+unless_set none b = b
+unless_set (some a) b = none
 
 -- the scheme that a reference brings
-abbrev pub openingScheme : Opening Bytes → Option (Scheme Bytes)
-openingScheme (discard k) = none
-openingScheme discardAll = none
-openingScheme (full s a) = s
+abbrev pub opening_scheme : Opening Bytes → Option (Scheme Bytes)
+opening_scheme (discard k) = none
+opening_scheme discard_all = none
+opening_scheme (full s a) = s
 
 -- the authority that a reference brings
-abbrev pub openingAuthority : Opening Bytes → Option (Authority Bytes)
-openingAuthority (discard k) = none
-openingAuthority discardAll = none
-openingAuthority (full s a) = a
+abbrev pub opening_authority : Opening Bytes → Option (Authority Bytes)
+opening_authority (discard k) = none
+opening_authority discard_all = none
+opening_authority (full s a) = a
 
 -- 5.3 Scheme, authority, query and fragment are copied where the reference sets them; a copied query unsets an older fragment.
 unfoldable pub copied : Reference → Cri → Cri
 copied r c =
     record {
-      scheme = get_or (openingScheme r.opening) c.scheme;
-      authority = get_or (openingAuthority r.opening) c.authority;
+      scheme = get_or (opening_scheme r.opening) c.scheme;
+      authority = get_or (opening_authority r.opening) c.authority;
       path = c.path;
       query = or r.query c.query;
-      fragment = or r.fragment (unlessSet r.query c.fragment);
+      fragment = or r.fragment (unless_set r.query c.fragment);
     }
 
 -- 5.4 In the result a path of one empty segment becomes no path. `reference` writes an empty path as unset.
@@ -68,9 +68,9 @@ resolve base r = normal (copied r (appended r.path (discarded r.opening (start b
 -- ---- the bytes of the resolved CRI, or the refusal
 
 -- a refusal of the base
-abbrev pub asBase : {A : Type 0} → Res A → Res A
-asBase (refused n k) = refused BASE k
-asBase (ok a) = ok a
+abbrev pub as_base : {A : Type 0} → Res A → Res A
+as_base (refused n k) = refused BASE k
+as_base (ok a) = ok a
 
 -- 5.5 RESULT: over the segments or the bytes that a CRI may have
 unfoldable pub fits : Limits → Cri → Bool

@@ -37,13 +37,13 @@ schemes =
     ∷ []
 
 -- the entry of a number
-unfoldable pub schemeIn : List SchemeEntry → ℕ → Option SchemeEntry
-schemeIn [] n = none
-schemeIn (e ∷ es) n = cond (eqb n e.number) (some e) (schemeIn es n)
+unfoldable pub scheme_in : List SchemeEntry → ℕ → Option SchemeEntry
+scheme_in [] n = none
+scheme_in (e ∷ es) n = cond (eqb n e.number) (some e) (scheme_in es n)
 
 -- the number is in the table
-unfoldable pub knownScheme : ℕ → Bool
-knownScheme n = any (λ (e : SchemeEntry). eqb n e.number) schemes
+unfoldable pub known_scheme : ℕ → Bool
+known_scheme n = any (λ (e : SchemeEntry). eqb n e.number) schemes
 
 -- ---- RULES 1.7: a scheme given as text
 
@@ -60,27 +60,27 @@ abbrev pub digit : ℕ → Bool
 digit b = within 0x30 0x39 b
 
 -- lower-case letters, digits, "+", "." or "-"
-unfoldable pub schemeByte : ℕ → Bool
-schemeByte b = lower b || digit b || member b (ascii "+.-")
+unfoldable pub scheme_byte : ℕ → Bool
+scheme_byte b = lower b || digit b || member b (ascii "+.-")
 
 -- the first is a lower-case letter
-unfoldable pub startsLower : Bytes → Bool
-startsLower [] = false
-startsLower (b ∷ bs) = lower b
+unfoldable pub starts_lower : Bytes → Bool
+starts_lower [] = false
+starts_lower (b ∷ bs) = lower b
 
 -- a lower-case letter, then lower-case letters, digits, "+", "." or "-"; none of the six names
-unfoldable pub schemeRule : Bytes → Bool
-schemeRule t = startsLower t && (all schemeByte t && all (λ (e : SchemeEntry). not (same t e.name)) schemes)
+unfoldable pub scheme_rule : Bytes → Bool
+scheme_rule t = starts_lower t && (all scheme_byte t && all (λ (e : SchemeEntry). not (same t e.name)) schemes)
 
 -- ---- RULES 1.9, 1.10: labels and segments
 
 -- a label holds no ".", no A to Z, no "[" and no "]"
-unfoldable pub labelByte : ℕ → Bool
-labelByte b = not (eqb b dot) && (not (upper b) && not (member b (ascii "[]")))
+unfoldable pub label_byte : ℕ → Bool
+label_byte b = not (eqb b dot) && (not (upper b) && not (member b (ascii "[]")))
 
 -- every byte of a label
-unfoldable pub labelRule : Bytes → Bool
-labelRule t = all labelByte t
+unfoldable pub label_rule : Bytes → Bool
+label_rule t = all label_byte t
 
 -- a decimal 0 to 255 without leading zeros
 unfoldable pub octet : Bytes → Bool
@@ -91,39 +91,39 @@ octet (a ∷ b ∷ c ∷ []) = within 0x31 0x39 a && (digit b && (digit c && leb
 octet (a ∷ b ∷ c ∷ d ∷ r) = false
 
 -- four labels that would print as an IPv4 address
-unfoldable pub looksIPv4 : List Bytes → Bool
-looksIPv4 ts = eqb (length ts) 4 && all octet ts
+unfoldable pub looks_ipv4 : List Bytes → Bool
+looks_ipv4 ts = eqb (length ts) 4 && all octet ts
 
 -- 2.5 and 1.9: together with their dots at most 255, and no IPv4 look
-unfoldable pub nameRule : List Bytes → Bool
-nameRule ts = leb (length (join dot ts)) 255 && not (looksIPv4 ts)
+unfoldable pub name_rule : List Bytes → Bool
+name_rule ts = leb (length (join dot ts)) 255 && not (looks_ipv4 ts)
 
 -- a path segment is never "." or ".."
-unfoldable pub segmentRule : Bytes → Bool
-segmentRule t = not (same t (ascii ".")) && not (same t (ascii ".."))
+unfoldable pub segment_rule : Bytes → Bool
+segment_rule t = not (same t (ascii ".")) && not (same t (ascii ".."))
 
 -- ---- RULES 2.2 to 2.5, 2.7: the sizes of each sort
 
 -- 2.7
-abbrev pub schemeName : Sort
-schemeName = record { low = 1; high = 16; rule = schemeRule }
+abbrev pub scheme_name : Sort
+scheme_name = record { low = 1; high = 16; rule = scheme_rule }
 
 -- 2.5
 abbrev pub label : Sort
-label = record { low = 1; high = 63; rule = labelRule }
+label = record { low = 1; high = 63; rule = label_rule }
 
 -- 2.2
 abbrev pub segment : Sort
-segment = record { low = 0; high = 255; rule = segmentRule }
+segment = record { low = 0; high = 255; rule = segment_rule }
 
 -- 2.3
 abbrev pub parameter : Sort
 parameter = record { low = 0; high = 255; rule = free }
 
 -- 2.4
-abbrev pub fragmentText : Sort
-fragmentText = record { low = 0; high = 255; rule = free }
+abbrev pub fragment_text : Sort
+fragment_text = record { low = 0; high = 255; rule = free }
 
 -- 2.6: an address has 4 or 16 bytes
-abbrev pub addressSize : ℕ → Bool
-addressSize n = eqb n 4 || eqb n 16
+abbrev pub address_size : ℕ → Bool
+address_size n = eqb n 4 || eqb n 16

@@ -1,15 +1,15 @@
 -- What lies inside the input: an item that stands at a position, and what the reader found.
 use Rattle.std.specs.Prelude.{ℕ, zero, suc, ◌+◌, ◌≤◌, ◌<◌, length}
 use Rattle.rules.specs.Bytes.{Bytes}
-use Rattle.rules.specs.Model.{Limits, mostLabels, mostParameters}
-use Rattle.rules.specs.Head.{infoAt}
-use Rattle.rules.specs.Reader.{end_at, Slot, unset, set, HostAt, addressAt, labelsAt}
-use Rattle.rules.specs.Reader.{SchemeAt, noScheme, number_at, name_at}
-use Rattle.rules.specs.Reader.{OpeningAt, discardAt, discardAllAt, fullAt, Found}
+use Rattle.rules.specs.Model.{Limits, most_labels, most_parameters}
+use Rattle.rules.specs.Head.{info_at}
+use Rattle.rules.specs.Reader.{end_at, Slot, unset, set, HostAt, address_at, labels_at}
+use Rattle.rules.specs.Reader.{SchemeAt, no_scheme, number_at, name_at}
+use Rattle.rules.specs.Reader.{OpeningAt, discard_at, discard_all_at, full_at, Found}
 
 -- an item stands at a position, whole
 pub record ItemStands (bs : Bytes) (at : ℕ) : Type 0 where
-  pub info : infoAt bs at < 28
+  pub info : info_at bs at < 28
   pub inside : end_at bs at ≤ length bs
 
 -- n items, one after the other: what a walk over items that were accepted asks
@@ -28,20 +28,20 @@ BytesStand bs at n = at + n ≤ length bs
 
 -- the text of a scheme, where it has one
 abbrev pub SchemeStands : Bytes → SchemeAt → Type 0
-SchemeStands bs noScheme = Unit {0}
+SchemeStands bs no_scheme = Unit {0}
 SchemeStands bs (number_at n) = Unit {0}
 SchemeStands bs (name_at at n) = BytesStand bs at n
 
 -- an address, or as many labels as there may be
 abbrev pub HostStands : Bytes → HostAt → Type 0
-HostStands bs (addressAt at n) = BytesStand bs at n
-HostStands bs (labelsAt at n) = RowWithin mostLabels bs at n
+HostStands bs (address_at at n) = BytesStand bs at n
+HostStands bs (labels_at at n) = RowWithin most_labels bs at n
 
 -- scheme and host, where the opening has them
 abbrev pub OpeningStands : Bytes → OpeningAt → Type 0
-OpeningStands bs (discardAt k) = Unit {0}
-OpeningStands bs discardAllAt = Unit {0}
-OpeningStands bs (fullAt s a) = SchemeStands bs s × HostStands bs a.host
+OpeningStands bs (discard_at k) = Unit {0}
+OpeningStands bs discard_all_at = Unit {0}
+OpeningStands bs (full_at s a) = SchemeStands bs s × HostStands bs a.host
 
 -- at most `most` texts of a path or query, where it is set
 abbrev pub TextsStand : ℕ → Bytes → Slot → Type 0
@@ -57,5 +57,5 @@ TextStands bs (set at n) = BytesStand bs at n
 pub record FoundStands (lim : Limits) (bs : Bytes) (f : Found) : Type 0 where
   pub opening : OpeningStands bs f.opening
   pub path : TextsStand lim.segments bs f.path
-  pub query : TextsStand mostParameters bs f.query
+  pub query : TextsStand most_parameters bs f.query
   pub fragment : TextStands bs f.fragment

@@ -4,9 +4,9 @@ use Rattle.std.proofs.Math.Option
 use Rattle.std.proofs.Math.Option.{Option, none, some}
 use Rattle.rules.specs.Bytes.{Bytes, ascii, dot, colon, slash, question, hash, ampersand, percent, member, join}
 use Rattle.rules.specs.Model.{Scheme, number, name, Host, address, labels, Authority, Cri}
-use Rattle.rules.specs.Rules.{lower, upper, digit, SchemeEntry, schemes, schemeIn}
+use Rattle.rules.specs.Rules.{lower, upper, digit, SchemeEntry, schemes, scheme_in}
 use Rattle.rules.specs.Numeral.{decimal}
-use Rattle.rules.specs.Address.{addressText}
+use Rattle.rules.specs.Address.{address_text}
 
 -- ---- bytes that stand bare, and escapes
 
@@ -26,17 +26,17 @@ bare Parameter b = (plain b || member b (ascii ":@/?")) && not (eqb b ampersand)
 bare Fragment b = plain b || member b (ascii ":@/?")
 
 -- "0" to "9", "A" to "F"
-unfoldable pub hexDigit : ℕ → ℕ
-hexDigit n = cond (ltb n 10) (0x30 + n) (0x37 + n)
+unfoldable pub hex_digit : ℕ → ℕ
+hex_digit n = cond (ltb n 10) (0x30 + n) (0x37 + n)
 
 -- 6.4: every byte that is not bare is "%" and two upper-case hex digits
-unfoldable pub escapeByte : Class → ℕ → Bytes
-escapeByte k b = cond (bare k b) (b ∷ []) (percent ∷ hexDigit (b / 16) ∷ hexDigit (b % 16) ∷ [])
+unfoldable pub escape_byte : Class → ℕ → Bytes
+escape_byte k b = cond (bare k b) (b ∷ []) (percent ∷ hex_digit (b / 16) ∷ hex_digit (b % 16) ∷ [])
 
 -- the bytes of a text, each bare or escaped
 unfoldable pub escape : Class → Bytes → Bytes
 escape k [] = []
-escape k (b ∷ bs) = escapeByte k b ++ escape k bs
+escape k (b ∷ bs) = escape_byte k b ++ escape k bs
 
 -- ---- 6.1: the text
 
@@ -46,39 +46,39 @@ marked d none = []
 marked d (some t) = d ∷ t
 
 -- the name of a table's entry
-abbrev pub entryName : Option SchemeEntry → Bytes
-entryName none = []
-entryName (some e) = e.name
+abbrev pub entry_name : Option SchemeEntry → Bytes
+entry_name none = []
+entry_name (some e) = e.name
 
 -- 6.2: a scheme number prints as its name
-unfoldable pub schemeText : Scheme Bytes → Bytes
-schemeText (number n) = entryName (schemeIn schemes n)
-schemeText (name t) = t
+unfoldable pub scheme_text : Scheme Bytes → Bytes
+scheme_text (number n) = entry_name (scheme_in schemes n)
+scheme_text (name t) = t
 
 -- 6.2: labels are joined by "."
-unfoldable pub hostText : Host Bytes → Bytes
-hostText (address bs) = addressText bs
-hostText (labels ls) = join dot (map (escape Label) ls)
+unfoldable pub host_text : Host Bytes → Bytes
+host_text (address bs) = address_text bs
+host_text (labels ls) = join dot (map (escape Label) ls)
 
 -- ":" and decimal port if present
-unfoldable pub authorityText : Authority Bytes → Bytes
-authorityText a = hostText a.host ++ marked colon (Option.map decimal a.port)
+unfoldable pub authority_text : Authority Bytes → Bytes
+authority_text a = host_text a.host ++ marked colon (Option.map decimal a.port)
 
 -- the segments joined by "/"
 unfoldable pub path_text : List Bytes → Bytes
 path_text ts = join slash (map (escape Segment) ts)
 
 -- parameters joined by "&"
-unfoldable pub queryText : List Bytes → Bytes
-queryText ts = join ampersand (map (escape Parameter) ts)
+unfoldable pub query_text : List Bytes → Bytes
+query_text ts = join ampersand (map (escape Parameter) ts)
 
 -- scheme name, "://", authority, "/", path
-unfoldable pub hierarchyText : Cri → Bytes
-hierarchyText c = schemeText c.scheme ++ (colon ∷ slash ∷ slash ∷ (authorityText c.authority ++ (slash ∷ path_text c.path)))
+unfoldable pub hierarchy_text : Cri → Bytes
+hierarchy_text c = scheme_text c.scheme ++ (colon ∷ slash ∷ slash ∷ (authority_text c.authority ++ (slash ∷ path_text c.path)))
 
 -- then "?" and the query if set, "#" and the fragment if set
-unfoldable pub uriText : Cri → Bytes
-uriText c =
-    hierarchyText c
-    ++ marked question (Option.map queryText c.query)
+unfoldable pub uri_text : Cri → Bytes
+uri_text c =
+    hierarchy_text c
+    ++ marked question (Option.map query_text c.query)
     ++ marked hash (Option.map (escape Fragment) c.fragment)

@@ -2,9 +2,9 @@
 use Rattle.std.specs.Prelude.{ℕ, ◌≤◌, ◌≡◌, true, List, length}
 use Rattle.std.proofs.Math.Option.{Option, none, some}
 use Rattle.rules.specs.Bytes.{Bytes, Each, Octets, within}
-use Rattle.rules.specs.Model.{Scheme, number, name, Host, address, labels, Authority, Opening, discard, discardAll, full, Reference, Limits, mostLabels, mostParameters}
+use Rattle.rules.specs.Model.{Scheme, number, name, Host, address, labels, Authority, Opening, discard, discard_all, full, Reference, Limits, most_labels, most_parameters}
 use Rattle.rules.specs.Utf8.{utf8}
-use Rattle.rules.specs.Rules.{Sort, schemeName, label, segment, parameter, fragmentText, knownScheme, nameRule, addressSize}
+use Rattle.rules.specs.Rules.{Sort, scheme_name, label, segment, parameter, fragment_text, known_scheme, name_rule, address_size}
 use Rattle.rules.specs.Encode.{encode}
 
 -- a statement of what is set
@@ -25,15 +25,15 @@ pub record GoodTexts (s : Sort) (low high : ℕ) (ts : List Bytes) : Type 0 wher
 
 -- 2.6: an address of 4 or 16 bytes
 pub record GoodAddress (a : Bytes) : Type 0 where
-  pub size : addressSize (length a) ≡ true
+  pub size : address_size (length a) ≡ true
   pub octets : Octets a
 
 -- From here on l is the sort of labels: `label`, or that of a rule which was amended (Amended).
 
--- 2.5: 1 to `mostLabels` labels, and the rules over all of them
+-- 2.5: 1 to `most_labels` labels, and the rules over all of them
 pub record LabelsBy (l : Sort) (ts : List Bytes) : Type 0 where
-  pub texts : GoodTexts l 1 mostLabels ts
-  pub name : nameRule ts ≡ true
+  pub texts : GoodTexts l 1 most_labels ts
+  pub name : name_rule ts ≡ true
 
 -- 1.8: an address or labels
 abbrev pub HostBy : Sort → Host Bytes → Type 0
@@ -51,13 +51,13 @@ pub record AuthorityBy (l : Sort) (a : Authority Bytes) : Type 0 where
 
 -- 1.6, 1.7: a number of the table, or a text
 abbrev pub GoodScheme : Scheme Bytes → Type 0
-GoodScheme (number n) = knownScheme n ≡ true
-GoodScheme (name t) = Good schemeName t
+GoodScheme (number n) = known_scheme n ≡ true
+GoodScheme (name t) = Good scheme_name t
 
 -- 1.2, 1.3: a discard up to 127; beside a scheme, or none, an authority is required
 abbrev pub OpeningBy : Sort → Opening Bytes → Type 0
 OpeningBy l (discard k) = k ≤ 127
-OpeningBy l discardAll = Unit {0}
+OpeningBy l discard_all = Unit {0}
 OpeningBy l (full s none) = ⊥
 OpeningBy l (full s (some a)) = If GoodScheme s × AuthorityBy l a
 
@@ -65,8 +65,8 @@ OpeningBy l (full s (some a)) = If GoodScheme s × AuthorityBy l a
 pub record ValidBy (l : Sort) (lim : Limits) (r : Reference) : Type 0 where
   pub opening : OpeningBy l r.opening
   pub path : If (GoodTexts segment 0 lim.segments) r.path
-  pub query : If (GoodTexts parameter 1 mostParameters) r.query
-  pub fragment : If (Good fragmentText) r.fragment
+  pub query : If (GoodTexts parameter 1 most_parameters) r.query
+  pub fragment : If (Good fragment_text) r.fragment
   pub size : length (encode r) ≤ lim.bytes
 
 -- ---- the rules in force

@@ -3,46 +3,46 @@ use Rattle.std.specs.Prelude.{◌+◌, ◌^◌, ◌<◌, ◌≡◌, Bool, true, 
 use Rattle.std.proofs.Math.Option.{Option, none, some}
 use Rattle.rules.specs.Bytes.{Bytes, all}
 use Rattle.rules.specs.Result.{Res, refused, ok}
-use Rattle.rules.specs.Model.{Scheme, number, name, Host, address, labels, Opening, discard, discardAll, full, Parts, Span, Components, Limits, elements, mostLabels, mostParameters}
+use Rattle.rules.specs.Model.{Scheme, number, name, Host, address, labels, Opening, discard, discard_all, full, Parts, Span, Components, Limits, elements, most_labels, most_parameters}
 use Rattle.rules.specs.Valid.{If}
 
 -- ---- the texts and addresses of the parts of a reference
 
 -- the labels of a host
-abbrev pub labelsOf : {A : Type 0} → Host A → List A
-labelsOf (address a) = []
-labelsOf (labels ts) = ts
+abbrev pub labels_of : {A : Type 0} → Host A → List A
+labels_of (address a) = []
+labels_of (labels ts) = ts
 
 -- the address or the labels of a host
-abbrev pub hostTexts : {A : Type 0} → Host A → List A
-hostTexts (address a) = a ∷ []
-hostTexts (labels ts) = ts
+abbrev pub host_texts : {A : Type 0} → Host A → List A
+host_texts (address a) = a ∷ []
+host_texts (labels ts) = ts
 
 -- the text of a scheme, where it has one
-abbrev pub schemeTexts : {A : Type 0} → Scheme A → List A
-schemeTexts (number n) = []
-schemeTexts (name t) = t ∷ []
+abbrev pub scheme_texts : {A : Type 0} → Scheme A → List A
+scheme_texts (number n) = []
+scheme_texts (name t) = t ∷ []
 
 -- the same of what may be unset
-abbrev pub whereSet : {A B : Type 0} → (A → List B) → Option A → List B
-whereSet f none = []
-whereSet f (some a) = f a
+abbrev pub where_set : {A B : Type 0} → (A → List B) → Option A → List B
+where_set f none = []
+where_set f (some a) = f a
 
 -- the texts and addresses of an opening
-abbrev pub openingTexts : {A : Type 0} → Opening A → List A
-openingTexts (discard k) = []
-openingTexts discardAll = []
-openingTexts (full s a) = whereSet schemeTexts s ++ whereSet (λ a. hostTexts a.host) a
+abbrev pub opening_texts : {A : Type 0} → Opening A → List A
+opening_texts (discard k) = []
+opening_texts discard_all = []
+opening_texts (full s a) = where_set scheme_texts s ++ where_set (λ a. host_texts a.host) a
 
 -- the labels of an opening
-abbrev pub openingLabels : {A : Type 0} → Opening A → List A
-openingLabels (discard k) = []
-openingLabels discardAll = []
-openingLabels (full s a) = whereSet (λ a. labelsOf a.host) a
+abbrev pub opening_labels : {A : Type 0} → Opening A → List A
+opening_labels (discard k) = []
+opening_labels discard_all = []
+opening_labels (full s a) = where_set (λ a. labels_of a.host) a
 
 -- every text and address
-abbrev pub allTexts : {A : Type 0} → Parts A → List A
-allTexts c = openingTexts c.opening ++ elements c.path ++ elements c.query ++ whereSet (λ t. t ∷ []) c.fragment
+abbrev pub all_texts : {A : Type 0} → Parts A → List A
+all_texts c = opening_texts c.opening ++ elements c.path ++ elements c.query ++ where_set (λ t. t ∷ []) c.fragment
 
 -- ---- writing
 
@@ -56,7 +56,7 @@ SizedScheme (name t) = Unit {0}
 -- of an opening
 abbrev pub SizedOpening : {A : Type 0} → Opening A → Type 0
 SizedOpening (discard k) = k < 2 ^ 64
-SizedOpening discardAll = Unit {0}
+SizedOpening discard_all = Unit {0}
 SizedOpening (full s a) = If SizedScheme s × If (λ a. If (λ p. p < 2 ^ 64) a.port) a
 
 -- of components
@@ -66,8 +66,8 @@ Sized c = SizedOpening c.opening
 -- 9.2: no count is over its size
 unfoldable pub counted : Limits → Components → Bool
 counted lim c =
-    leb (length (openingLabels c.opening)) mostLabels
-    && (leb (length (elements c.path)) lim.segments && leb (length (elements c.query)) mostParameters)
+    leb (length (opening_labels c.opening)) most_labels
+    && (leb (length (elements c.path)) lim.segments && leb (length (elements c.query)) most_parameters)
 
 -- 9.2: a span lies inside the lent bytes
 unfoldable pub inside : Bytes → Span → Bool

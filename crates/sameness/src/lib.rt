@@ -1,10 +1,10 @@
 // Whether two links are the same CRI: both URI texts are written, and compared.
 ghost use Rattle.std.specs.Prelude.{◌≤◌, ◌≡◌, true, ◌↔◌, length};
 ghost use Rattle.rules.specs.Model.{limits};
-ghost use Rattle.rules.specs.Calls.{length_of, after, textCall};
+ghost use Rattle.rules.specs.Calls.{length_of, after, text_call};
 ghost use Rattle.rules.specs.Views.{verdict};
-ghost use Rattle.refusals.specs.Answers.{verdictIs};
-ghost use Rattle.outcomes.specs.Answers.{outcomeIs};
+ghost use Rattle.refusals.specs.Answers.{verdict_is};
+ghost use Rattle.outcomes.specs.Answers.{outcome_is};
 ghost use Rattle.sameness.specs.Answers.{WroteSame, Answered, CallsDemand3, Judged};
 
 use cri::Outcome;
@@ -29,7 +29,7 @@ pub struct Judgement {
 
 // Whether two calls, which left their rooms as x and y, both wrote, and what they wrote is equal, length and bytes.
 fn wrote_same(first: Outcome, second: Outcome, x: &[u8], y: &[u8]) -> bool
-    requires { (length_of (outcomeIs first) ≤ length x.now) × (length_of (outcomeIs second) ≤ length y.now) }
+    requires { (length_of (outcome_is first) ≤ length x.now) × (length_of (outcome_is second) ≤ length y.now) }
     ensures { (result ≡ true) ↔ WroteSame first second x.now y.now }
 {
     match first {
@@ -43,7 +43,7 @@ fn wrote_same(first: Outcome, second: Outcome, x: &[u8], y: &[u8]) -> bool
 
 // Whether a call is done, or its refusal.
 fn verdict_of(outcome: Outcome) -> Verdict
-    ensures { verdictIs result ≡ verdict (outcomeIs outcome) }
+    ensures { verdict_is result ≡ verdict (outcome_is outcome) }
 {
     match outcome {
         Outcome::Written(_) => Verdict::Accepted,
@@ -56,8 +56,8 @@ fn verdict_of(outcome: Outcome) -> Verdict
 pub fn compare(first: &[u8], second: &[u8], x: &mut [u8], y: &mut [u8]) -> Compared
     ensures answered { Answered first.now second.now (length x.old) (length y.old) result }
     ensures calls_demand3 { CallsDemand3 first.now second.now (length x.old) (length y.old) result x.new y.new }
-    ensures x_after { x.new ≡ after (textCall limits first.now) x.old }
-    ensures y_after { y.new ≡ after (textCall limits second.now) y.old }
+    ensures x_after { x.new ≡ after (text_call limits first.now) x.old }
+    ensures y_after { y.new ≡ after (text_call limits second.now) y.old }
 {
     let one = cri::uri_text(first, x);
     let other = cri::uri_text(second, y);

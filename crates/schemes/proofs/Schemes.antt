@@ -11,26 +11,26 @@ use mir.Syntax.{w64}
 use mir.Val.{SFits, Fits, to_z, of_z}
 use mir.Facts.{to_z-of_z}
 use Rattle.rules.proofs.Tools.{cond_yes, cond_no}
-use Rattle.schemes.specs.Schemes.{Below, schemeId, schemeNumber}
+use Rattle.schemes.specs.Schemes.{Below, scheme_id, scheme_number}
 use Rattle.schemes.specs.declared.SchemeId.TheVariants as SchemeIdV
 use Rattle.schemes.specs.declared.SchemeNumber.TheVariants as SchemeNumberV
 
 -- ---- the ends, and the way there and back
 
 -- -1 carries the number 0, and -10 the number 9
-pub ends : (schemeNumber (negsuc 0) ≡ SchemeNumberV.Is 0) × (schemeNumber (negsuc 9) ≡ SchemeNumberV.Is 9)
+pub ends : (scheme_number (negsuc 0) ≡ SchemeNumberV.Is 0) × (scheme_number (negsuc 9) ≡ SchemeNumberV.Is 9)
 ends = (refl, refl)
 
 -- 64 bits hold -1 - n for each n below 2^63
-pub id-fits : (n : ℕ) → n < 2 ^ 63 → SchemeIdV.Is (negsuc n) ≡ schemeId n
-id-fits n h = sym (cond_yes (ltb n (2 ^ 63)) _ _ (lt-ltb n (2 ^ 63) h))
+pub id_fits : (n : ℕ) → n < 2 ^ 63 → SchemeIdV.Is (negsuc n) ≡ scheme_id n
+id_fits n h = sym (cond_yes (ltb n (2 ^ 63)) _ _ (lt-ltb n (2 ^ 63) h))
 
-pub id-too-large : (n : ℕ) → 2 ^ 63 ≤ n → SchemeIdV.TooLarge ≡ schemeId n
-id-too-large n h = sym (cond_no (ltb n (2 ^ 63)) _ _ (le-ltb n (2 ^ 63) h))
+pub id_too_large : (n : ℕ) → 2 ^ 63 ≤ n → SchemeIdV.TooLarge ≡ scheme_id n
+id_too_large n h = sym (cond_no (ltb n (2 ^ 63)) _ _ (le-ltb n (2 ^ 63) h))
 
 -- what the integer of a number is, and that 64 bits hold it
-pub id-is : (n : ℕ) (z : ℤ) → schemeId n ≡ SchemeIdV.Is z → (z ≡ negsuc n) × (n < 2 ^ 63)
-id-is n z e = of (ltb n (2 ^ 63)) refl e
+pub id_is : (n : ℕ) (z : ℤ) → scheme_id n ≡ SchemeIdV.Is z → (z ≡ negsuc n) × (n < 2 ^ 63)
+id_is n z e = of (ltb n (2 ^ 63)) refl e
   where
     of : (t : Bool) → ltb n (2 ^ 63) ≡ t → cond t (SchemeIdV.Is (negsuc n)) SchemeIdV.TooLarge ≡ SchemeIdV.Is z
         → (z ≡ negsuc n) × (n < 2 ^ 63)
@@ -38,30 +38,30 @@ id-is n z e = of (ltb n (2 ^ 63)) refl e
     of false h e = let q : ◌≡◌ {A = ℕ} 0 1 = cc in absurd (omega arith)
 
 -- the same of the integer as the code hands it on
-pub id-read : (n : ℕ) (z : ℤ) → schemeId n ≡ SchemeIdV.Is z → to_z w64 (of_z w64 z) ≡ negsuc n
-id-read n z e = rw (id-is n z e).0 (to_z-of_z {w = w64} {z = negsuc n} (record { sfits = (id-is n z e).1 }))
+pub id_read : (n : ℕ) (z : ℤ) → scheme_id n ≡ SchemeIdV.Is z → to_z w64 (of_z w64 z) ≡ negsuc n
+id_read n z e = rw (id_is n z e).0 (to_z-of_z {w = w64} {z = negsuc n} (record { sfits = (id_is n z e).1 }))
 
 -- a number comes back from the integer that carries it
-pub number-back : (n : ℕ) (z : ℤ) → schemeId n ≡ SchemeIdV.Is z → schemeNumber z ≡ SchemeNumberV.Is n
-number-back n z e = ap schemeNumber (id-is n z e).0
+pub number_back : (n : ℕ) (z : ℤ) → scheme_id n ≡ SchemeIdV.Is z → scheme_number z ≡ SchemeNumberV.Is n
+number_back n z e = ap scheme_number (id_is n z e).0
 
-module _ (n : ℕ) (z : ℤ) (e : schemeId n ≡ SchemeIdV.Is z) where
-  read : schemeNumber (to_z w64 (of_z w64 z)) ≡ SchemeNumberV.Is n
-  read = ap schemeNumber (id-read n z e)
+module _ (n : ℕ) (z : ℤ) (e : scheme_id n ≡ SchemeIdV.Is z) where
+  read : scheme_number (to_z w64 (of_z w64 z)) ≡ SchemeNumberV.Is n
+  read = ap scheme_number (id_read n z e)
 
-  pub number_read : (m : ℕ) → schemeNumber (to_z w64 (of_z w64 z)) ≡ SchemeNumberV.Is m → m ≡ n
+  pub number_read : (m : ℕ) → scheme_number (to_z w64 (of_z w64 z)) ≡ SchemeNumberV.Is m → m ≡ n
   number_read m h = let q : SchemeNumberV.Is n ≡ SchemeNumberV.Is m = sym read ∙ h in cc
 
-  pub negative-read : schemeNumber (to_z w64 (of_z w64 z)) ≡ SchemeNumberV.NotNegative → ⊥
-  negative-read h =
+  pub negative_read : scheme_number (to_z w64 (of_z w64 z)) ≡ SchemeNumberV.NotNegative → ⊥
+  negative_read h =
       let q : SchemeNumberV.Is n ≡ SchemeNumberV.NotNegative = sym read ∙ h in
       let x : ◌≡◌ {A = ℕ} 0 1 = cc in
       omega arith
 
 -- an integer of 64 bits comes back from the number that it carries
-pub id-back : (z : ℤ) (n : ℕ) → SFits w64 z → schemeNumber z ≡ SchemeNumberV.Is n → schemeId n ≡ SchemeIdV.Is z
-id-back (negsuc m) n f e = let q : m ≡ n = cc in ap schemeId (sym q) ∙ sym (id-fits m f.sfits)
-id-back (pos m) n f e = let q : ◌≡◌ {A = ℕ} 0 1 = cc in absurd (omega arith)
+pub id_back : (z : ℤ) (n : ℕ) → SFits w64 z → scheme_number z ≡ SchemeNumberV.Is n → scheme_id n ≡ SchemeIdV.Is z
+id_back (negsuc m) n f e = let q : m ≡ n = cc in ap scheme_id (sym q) ∙ sym (id_fits m f.sfits)
+id_back (pos m) n f e = let q : ◌≡◌ {A = ℕ} 0 1 = cc in absurd (omega arith)
 
 -- ---- at 64 bits
 
@@ -93,8 +93,8 @@ module _ (n : ℕ) (h : n < 2 ^ 63) where
       ∙ minus (neg_ℤ (pos n))
       ∙ neg_ℤ-neg_ℤ (pos n)
 
-  over-read : to_z w64 (of_z w64 (pos 0 -ℤ to_z w64 (of_z w64 (to_z w64 (of_z w64 (negsuc n)) +ℤ pos 1)))) ≡ pos n
-  over-read = ap (λ (z : ℤ). to_z w64 (of_z w64 z)) over ∙ to_z-of_z {w = w64} {z = pos n} (record { sfits = h })
+  over_read : to_z w64 (of_z w64 (pos 0 -ℤ to_z w64 (of_z w64 (to_z w64 (of_z w64 (negsuc n)) +ℤ pos 1)))) ≡ pos n
+  over_read = ap (λ (z : ℤ). to_z w64 (of_z w64 z)) over ∙ to_z-of_z {w = w64} {z = pos n} (record { sfits = h })
 
   -- -n, and -n - 1, as the code computes them of n
   pub down : pos 0 -ℤ to_z w64 n ≡ neg_ℤ (pos n)
@@ -103,33 +103,33 @@ module _ (n : ℕ) (h : n < 2 ^ 63) where
   pub under : to_z w64 (of_z w64 (pos 0 -ℤ to_z w64 n)) -ℤ pos 1 ≡ negsuc n
   under = ap (λ (z : ℤ). to_z w64 (of_z w64 z) -ℤ pos 1) down ∙ ap (λ (z : ℤ). z -ℤ pos 1) (to_z-of_z {w = w64} (negated_fits n h)) ∙ dec n
 
-  pub under-read : to_z w64 (of_z w64 (to_z w64 (of_z w64 (pos 0 -ℤ to_z w64 n)) -ℤ pos 1)) ≡ negsuc n
-  under-read = ap (λ (z : ℤ). to_z w64 (of_z w64 z)) under ∙ to_z-of_z {w = w64} {z = negsuc n} (record { sfits = h })
+  pub under_read : to_z w64 (of_z w64 (to_z w64 (of_z w64 (pos 0 -ℤ to_z w64 n)) -ℤ pos 1)) ≡ negsuc n
+  under_read = ap (λ (z : ℤ). to_z w64 (of_z w64 z)) under ∙ to_z-of_z {w = w64} {z = negsuc n} (record { sfits = h })
 
 -- z + 1, and -z, as the code computes them
-abbrev oneMore : ℤ → ℤ
-oneMore z = to_z w64 (of_z w64 z) +ℤ pos 1
+abbrev one_more : ℤ → ℤ
+one_more z = to_z w64 (of_z w64 z) +ℤ pos 1
 
 abbrev negated : ℤ → ℤ
 negated z = pos 0 -ℤ to_z w64 (of_z w64 z)
 
-pub add-fits : (z : ℤ) → Below z → SFits w64 z → SFits w64 (oneMore z)
-add-fits (negsuc n) b f = subst (SFits w64) (sym (up n f.sfits)) (negated_fits n f.sfits)
+pub add_fits : (z : ℤ) → Below z → SFits w64 z → SFits w64 (one_more z)
+add_fits (negsuc n) b f = subst (SFits w64) (sym (up n f.sfits)) (negated_fits n f.sfits)
 
-pub sub-fits : (z : ℤ) → Below z → SFits w64 z → SFits w64 (negated (oneMore z))
-sub-fits (negsuc n) b f = subst (SFits w64) (sym (over n f.sfits)) (record { sfits = f.sfits })
+pub sub_fits : (z : ℤ) → Below z → SFits w64 z → SFits w64 (negated (one_more z))
+sub_fits (negsuc n) b f = subst (SFits w64) (sym (over n f.sfits)) (record { sfits = f.sfits })
 
-pub cast_fits : (z : ℤ) → Below z → SFits w64 z → T (non_neg (to_z w64 (of_z w64 (negated (oneMore z))))) × Fits w64 (nat_abs (to_z w64 (of_z w64 (negated (oneMore z)))))
-cast_fits (negsuc n) b f = rw (over-read n f.sfits) (tt, record { fits = omega (arith, f.sfits) })
+pub cast_fits : (z : ℤ) → Below z → SFits w64 z → T (non_neg (to_z w64 (of_z w64 (negated (one_more z))))) × Fits w64 (nat_abs (to_z w64 (of_z w64 (negated (one_more z)))))
+cast_fits (negsuc n) b f = rw (over_read n f.sfits) (tt, record { fits = omega (arith, f.sfits) })
 
-pub carried : (z : ℤ) → Below z → SFits w64 z → z ≡ negsuc (nat_abs (to_z w64 (of_z w64 (negated (oneMore z)))))
-carried (negsuc n) b f = rw (over-read n f.sfits)
+pub carried : (z : ℤ) → Below z → SFits w64 z → z ≡ negsuc (nat_abs (to_z w64 (of_z w64 (negated (one_more z)))))
+carried (negsuc n) b f = rw (over_read n f.sfits)
 
 -- the test of the sign
 pub below : (z : ℤ) → lt_z z (pos 0) ≡ true → Below z
 below (negsuc n) h = tt
 below (pos n) h = omega (arith, ltb-true n 0 h)
 
-pub not-below : (z : ℤ) → lt_z z (pos 0) ≡ false → SchemeNumberV.NotNegative ≡ schemeNumber z
-not-below (pos n) h = refl
-not-below (negsuc n) h = cc
+pub not_below : (z : ℤ) → lt_z z (pos 0) ≡ false → SchemeNumberV.NotNegative ≡ scheme_number z
+not_below (pos n) h = refl
+not_below (negsuc n) h = cc

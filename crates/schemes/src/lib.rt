@@ -2,11 +2,11 @@
 // negative integers that carry scheme numbers, -1 - n for the number n.
 ghost use Rattle.std.specs.Prelude.{◌≡◌, ◌+◌, ◌≤◌, ◌<◌, ◌^◌, negsuc, length};
 ghost use Rattle.rules.specs.Bytes.{part};
-ghost use Rattle.rules.specs.Rules.{schemes, schemeIn};
-ghost use Rattle.rules.specs.Text.{entryName};
+ghost use Rattle.rules.specs.Rules.{schemes, scheme_in};
+ghost use Rattle.rules.specs.Text.{entry_name};
 ghost use Rattle.put.specs.Wrote.{Wrote};
-ghost use Rattle.schemes.specs.Schemes.{Below, schemeId, schemeNumber, entry_of, entryPort, RowIs, EntryIs};
-ghost use Rattle.schemes.specs.Schemes.{knownId, defaultPort, defaultIs, same_name, knownName};
+ghost use Rattle.schemes.specs.Schemes.{Below, scheme_id, scheme_number, entry_of, entry_port, RowIs, EntryIs};
+ghost use Rattle.schemes.specs.Schemes.{known_id, default_port, default_is, same_name, known_name};
 
 use put::put_bytes;
 use same_bytes::same_at;
@@ -46,7 +46,7 @@ fn number_of(id: i64) -> u64
 
 // The negative integer that carries a scheme number, if 64 bits hold it.
 pub fn scheme_id(number: u64) -> SchemeId
-    ensures { result ≡ schemeId number }
+    ensures { result ≡ scheme_id number }
 {
     if number < 9223372036854775808 {
         let id = id_of(number);
@@ -58,7 +58,7 @@ pub fn scheme_id(number: u64) -> SchemeId
 
 // The scheme number that an integer carries, if the integer is negative.
 pub fn scheme_number(id: i64) -> SchemeNumber
-    ensures { result ≡ schemeNumber id }
+    ensures { result ≡ scheme_number id }
 {
     if id < 0 {
         SchemeNumber::Is(number_of(id))
@@ -115,7 +115,7 @@ pub const NAME_ROOM: usize = 16;
 
 // The same by number.
 fn put_by_number(room: &mut [u8], at: usize, number: u64) -> Entry
-    ensures { EntryIs room.old at (schemeIn schemes number) room.new result }
+    ensures { EntryIs room.old at (scheme_in schemes number) room.new result }
 {
     match scheme_id(number) {
         SchemeId::Is(id) => put_by_id(room, at, id),
@@ -127,7 +127,7 @@ fn put_by_number(room: &mut [u8], at: usize, number: u64) -> Entry
 
 // Whether an id carries a number of the table.
 pub fn is_known(id: i64) -> bool
-    ensures { result ≡ knownId id }
+    ensures { result ≡ known_id id }
 {
     let mut no_room = [0u8; 0];
     put_by_id(&mut no_room, 0, id).length != 0
@@ -135,8 +135,8 @@ pub fn is_known(id: i64) -> bool
 
 // What the table says of a number besides its name.
 fn entry_of(number: u64) -> Entry
-    ensures length_value { result.length ≡ length (entryName (schemeIn schemes number)) }
-    ensures port_value { result.port ≡ entryPort (schemeIn schemes number) }
+    ensures length_value { result.length ≡ length (entry_name (scheme_in schemes number)) }
+    ensures port_value { result.port ≡ entry_port (scheme_in schemes number) }
 {
     let mut no_room = [0u8; 0];
     put_by_number(&mut no_room, 0, number)
@@ -144,15 +144,15 @@ fn entry_of(number: u64) -> Entry
 
 // How long the name of a scheme number is.
 pub fn name_length(number: u64) -> usize
-    ensures { result ≡ length (entryName (schemeIn schemes number)) }
+    ensures { result ≡ length (entry_name (scheme_in schemes number)) }
 {
     entry_of(number).length
 }
 
 // The name of a scheme number; nothing for a number that is not in the table.
 pub fn put_name(room: &mut [u8], at: usize, number: u64) -> usize
-    requires { at + length (entryName (schemeIn schemes number)) ≤ length room.old }
-    ensures { Wrote room.old at (entryName (schemeIn schemes number)) room.new result }
+    requires { at + length (entry_name (scheme_in schemes number)) ≤ length room.old }
+    ensures { Wrote room.old at (entry_name (scheme_in schemes number)) room.new result }
 {
     at + put_by_number(room, at, number).length
 }
@@ -165,7 +165,7 @@ pub enum DefaultPort {
 }
 
 pub fn default_port(number: u64) -> DefaultPort
-    ensures { defaultIs result ≡ defaultPort number }
+    ensures { default_is result ≡ default_port number }
 {
     let entry = entry_of(number);
     if entry.length == 0 {
@@ -177,7 +177,7 @@ pub fn default_port(number: u64) -> DefaultPort
 // Whether n bytes from a position on are the name of a scheme number.
 fn has_name(s: &[u8], from: usize, n: usize, number: u64) -> bool
     requires { from + n ≤ length s.now }
-    ensures { result ≡ same_name (part s.now from n) (schemeIn schemes number) }
+    ensures { result ≡ same_name (part s.now from n) (scheme_in schemes number) }
 {
     let length = name_length(number);
     if length == 0 {
@@ -194,7 +194,7 @@ fn has_name(s: &[u8], from: usize, n: usize, number: u64) -> bool
 // Whether n bytes from a position on are a name of the table.
 pub fn is_name(s: &[u8], from: usize, n: usize) -> bool
     requires { from + n ≤ length s.now }
-    ensures { result ≡ knownName (part s.now from n) }
+    ensures { result ≡ known_name (part s.now from n) }
 {
     let mut number = 0;
     while number < NUMBERS {

@@ -3,15 +3,15 @@ ghost use Rattle.std.specs.Prelude.{◌≡◌, suc};
 ghost use Rattle.std.proofs.Math.ListN.{get_elem?};
 ghost use Rattle.rules.specs.Result.{given, NONE};
 ghost use Rattle.rules.specs.Model.{elements, limits};
-ghost use Rattle.rules.specs.Reader.{spanAt};
-ghost use Rattle.rules.specs.Meaning.{textSpans};
-ghost use Rattle.rules.specs.Views.{segmentView, segmentShown, verdict};
+ghost use Rattle.rules.specs.Reader.{span_at};
+ghost use Rattle.rules.specs.Meaning.{text_spans};
+ghost use Rattle.rules.specs.Views.{segment_view, segment_shown, verdict};
 ghost use Rattle.rules.specs.Standing.{RowAt, TextsStand};
-ghost use Rattle.cbor.specs.Heads.{spanIs};
+ghost use Rattle.cbor.specs.Heads.{span_is};
 ghost use Rattle.reader.specs.Answers.{slot_of};
-ghost use Rattle.cbor_rows.specs.Rows.{nthAt};
-ghost use Rattle.refusals.specs.Answers.{verdictIs};
-ghost use Rattle.segment_view.specs.Shown.{PartOf, viewIs};
+ghost use Rattle.cbor_rows.specs.Rows.{nth_at};
+ghost use Rattle.refusals.specs.Answers.{verdict_is};
+ghost use Rattle.segment_view.specs.Shown.{PartOf, view_is};
 
 use cbor::{Span, span_at};
 use numbers::NONE;
@@ -28,7 +28,7 @@ enum View {
 // Where the content of the n-th item stands, from 0, of those that stand in a row from a position on.
 fn nth_span(s: &[u8], at: usize, n: usize) -> Span
     requires { RowAt s.now at (suc n) }
-    ensures { spanIs result ≡ spanAt s.now (nthAt s.now at n) }
+    ensures { span_is result ≡ span_at s.now (nth_at s.now at n) }
 {
     span_at(s, cbor_rows::after(s, at, n))
 }
@@ -36,7 +36,7 @@ fn nth_span(s: &[u8], at: usize, n: usize) -> Span
 // The n-th segment of a path.
 fn path_segment(s: &[u8], path: Slot, n: usize) -> View
     requires { TextsStand limits.segments s.now (slot_of path) }
-    ensures { viewIs result ≡ given (get_elem? (elements (textSpans s.now (slot_of path))) n) NONE 0 }
+    ensures { view_is result ≡ given (get_elem? (elements (text_spans s.now (slot_of path))) n) NONE 0 }
 {
     match path {
         Slot::Unset => View::Refused(Refusal {
@@ -58,7 +58,7 @@ fn path_segment(s: &[u8], path: Slot, n: usize) -> View
 
 // The n-th segment of an input.
 fn nth_segment(s: &[u8], n: usize) -> View
-    ensures { viewIs result ≡ segmentView limits s.now n }
+    ensures { view_is result ≡ segment_view limits s.now n }
 {
     match reader::read(s) {
         Answer::Is(found) => {
@@ -71,7 +71,7 @@ fn nth_segment(s: &[u8], n: usize) -> View
 
 // The n-th path segment, from 0: the part of the link that holds it; the empty part at the start where there is none.
 pub fn segment(link: &[u8], n: usize) -> &[u8]
-    ensures { PartOf link.entry result (segmentShown (segmentView limits link.now n)) }
+    ensures { PartOf link.entry result (segment_shown (segment_view limits link.now n)) }
 {
     match nth_segment(link, n) {
         View::At(span) => {
@@ -85,7 +85,7 @@ pub fn segment(link: &[u8], n: usize) -> &[u8]
 
 // Accepted where that segment is there; 1 to 7 where the link is refused; 18 where it has no such segment.
 pub fn segment_verdict(link: &[u8], n: usize) -> Verdict
-    ensures { verdictIs result ≡ verdict (segmentView limits link.now n) }
+    ensures { verdict_is result ≡ verdict (segment_view limits link.now n) }
 {
     match nth_segment(link, n) {
         View::At(_) => Verdict::Accepted,

@@ -11,114 +11,114 @@ use Rattle.rules.specs.Bytes.{Bytes, part, within, all, any, same, join, dot}
 use Rattle.rules.specs.Result.{refused, ok, need, ◌>>=◌, ◌>>◌, CUT, LIMIT, TEXT, RULE}
 use Rattle.rules.specs.Utf8.{utf8}
 use Rattle.rules.specs.Head.{Head}
-use Rattle.rules.specs.Rules.{Sort, schemes, schemeByte, schemeRule, schemeName, lower, digit, startsLower, octet, looksIPv4, nameRule}
-use Rattle.rules.specs.Reader.{readContent, textBody, contents}
-use Rattle.rules.proofs.Tools.{by-test, length_part, part-cons}
-use Rattle.rules.proofs.Steps.{need-yes, need-no, bind_ok, bind-refused, Ok, ok-any, ok-map, ok-need}
-use Rattle.rules.proofs.Texts.{ok-content, length-contents}
+use Rattle.rules.specs.Rules.{Sort, schemes, scheme_byte, scheme_rule, scheme_name, lower, digit, starts_lower, octet, looks_ipv4, name_rule}
+use Rattle.rules.specs.Reader.{read_content, text_body, contents}
+use Rattle.rules.proofs.Tools.{by_test, length_part, part_cons}
+use Rattle.rules.proofs.Steps.{need_yes, need_no, bind_ok, bind_refused, Ok, ok_any, ok_map, ok_need}
+use Rattle.rules.proofs.Texts.{ok_content, length_contents}
 use Rattle.rules.proofs.RowWalk.{First}
-use Rattle.schemes.specs.Schemes.{knownName}
-use Rattle.texts.specs.Answers.{schemeForm, sortIs, dottedLength}
+use Rattle.schemes.specs.Schemes.{known_name}
+use Rattle.texts.specs.Answers.{scheme_form, sort_is, dotted_length}
 use Rattle.texts.specs.declared.Sort.TheVariants as SortV
 
 -- ---- the table of schemes
 
-pub not-any : {A : Type 0} (p : A → Bool) (xs : List A) → not (any p xs) ≡ all (λ x. not (p x)) xs
+pub not_any : {A : Type 0} (p : A → Bool) (xs : List A) → not (any p xs) ≡ all (λ x. not (p x)) xs
 unfolding any all
-not-any p [] = refl
-not-any p (x ∷ xs) = by-test (λ t. not (t || any p xs) ≡ (not t && all (λ x. not (p x)) xs)) (p x) (λ e. refl) (λ e. not-any p xs)
+not_any p [] = refl
+not_any p (x ∷ xs) = by_test (λ t. not (t || any p xs) ≡ (not t && all (λ x. not (p x)) xs)) (p x) (λ e. refl) (λ e. not_any p xs)
 
 -- ---- a text, by the first of its tests that fails
 
 module _ (t : Sort) (bs : Bytes) (at : ℕ) (h : Head) where
-  pub text-limit : within t.low t.high h.value ≡ false → refused LIMIT at ≡ textBody t bs at h
-  unfolding textBody
-  text-limit l = need-no _ _ _ _ l
+  pub text_limit : within t.low t.high h.value ≡ false → refused LIMIT at ≡ text_body t bs at h
+  unfolding text_body
+  text_limit l = need_no _ _ _ _ l
 
   module _ (fits : within t.low t.high h.value ≡ true) where
-    pub text-cut : length bs < h.next + h.value → refused CUT at ≡ textBody t bs at h
-    unfolding textBody readContent
-    text-cut l = bind-refused _ _ _ _ (need-no _ _ _ _ (lt-leb _ _ l)) ∙ need-yes _ _ _ _ fits
+    pub text_cut : length bs < h.next + h.value → refused CUT at ≡ text_body t bs at h
+    unfolding text_body read_content
+    text_cut l = bind_refused _ _ _ _ (need_no _ _ _ _ (lt-leb _ _ l)) ∙ need_yes _ _ _ _ fits
 
     module _ (inside : h.next + h.value ≤ length bs) where
-      content : ok (part bs h.next h.value) ≡ readContent bs at h
-      unfolding readContent
-      content = need-yes _ _ _ _ (le-leb _ _ inside)
+      content : ok (part bs h.next h.value) ≡ read_content bs at h
+      unfolding read_content
+      content = need_yes _ _ _ _ (le-leb _ _ inside)
 
-      pub text-wrong : utf8 (part bs h.next h.value) ≡ false → refused TEXT at ≡ textBody t bs at h
-      unfolding textBody
-      text-wrong u = need-no _ _ _ _ u ∙ bind_ok _ _ _ content ∙ need-yes _ _ _ _ fits
+      pub text_wrong : utf8 (part bs h.next h.value) ≡ false → refused TEXT at ≡ text_body t bs at h
+      unfolding text_body
+      text_wrong u = need_no _ _ _ _ u ∙ bind_ok _ _ _ content ∙ need_yes _ _ _ _ fits
 
       module _ (u : utf8 (part bs h.next h.value) ≡ true) where
-        pub text-against : t.rule (part bs h.next h.value) ≡ false → refused RULE at ≡ textBody t bs at h
-        unfolding textBody
-        text-against r = need-no _ _ _ _ r ∙ need-yes _ _ _ _ u ∙ bind_ok _ _ _ content ∙ need-yes _ _ _ _ fits
+        pub text_against : t.rule (part bs h.next h.value) ≡ false → refused RULE at ≡ text_body t bs at h
+        unfolding text_body
+        text_against r = need_no _ _ _ _ r ∙ need_yes _ _ _ _ u ∙ bind_ok _ _ _ content ∙ need_yes _ _ _ _ fits
 
-        pub text-kept : t.rule (part bs h.next h.value) ≡ true → ok (h.next + h.value) ≡ textBody t bs at h
-        unfolding textBody
-        text-kept r = need-yes _ _ _ _ r ∙ need-yes _ _ _ _ u ∙ bind_ok _ _ _ content ∙ need-yes _ _ _ _ fits
+        pub text_kept : t.rule (part bs h.next h.value) ≡ true → ok (h.next + h.value) ≡ text_body t bs at h
+        unfolding text_body
+        text_kept r = need_yes _ _ _ _ r ∙ need_yes _ _ _ _ u ∙ bind_ok _ _ _ content ∙ need_yes _ _ _ _ fits
 
 -- the content of an accepted text lies inside
-pub text-inside : (t : Sort) (bs : Bytes) (at : ℕ) (h : Head) → Ok (λ next. h.next + h.value ≤ length bs) (textBody t bs at h)
-unfolding textBody
-text-inside t bs at h = ok-need _ _ _ _ (λ w. ok-content _ _ _ _ (λ l. ok-map (ok-any _) (λ _ _. l)))
+pub text_inside : (t : Sort) (bs : Bytes) (at : ℕ) (h : Head) → Ok (λ next. h.next + h.value ≤ length bs) (text_body t bs at h)
+unfolding text_body
+text_inside t bs at h = ok_need _ _ _ _ (λ w. ok_content _ _ _ _ (λ l. ok_map (ok_any _) (λ _ _. l)))
 
 -- ---- the text of a scheme: its form, and then the names of the table
 
-rule-split : (t : Bytes) → schemeRule t ≡ (schemeForm t && not (knownName t))
-unfolding schemeRule schemeForm knownName
-rule-split t =
-    by-test (λ x. (x && (all schemeByte t && all (λ e. not (same t e.name)) schemes)) ≡ ((x && all schemeByte t) && not (any (λ e. same t e.name) schemes)))
-    (startsLower t) (λ _. ap (λ y. all schemeByte t && y) (sym (not-any _ _))) (λ _. refl)
+rule_split : (t : Bytes) → scheme_rule t ≡ (scheme_form t && not (known_name t))
+unfolding scheme_rule scheme_form known_name
+rule_split t =
+    by_test (λ x. (x && (all scheme_byte t && all (λ e. not (same t e.name)) schemes)) ≡ ((x && all scheme_byte t) && not (any (λ e. same t e.name) schemes)))
+    (starts_lower t) (λ _. ap (λ y. all scheme_byte t && y) (sym (not_any _ _))) (λ _. refl)
 
 module _ (bs : Bytes) (at : ℕ) (h : Head) where
   abbrev named : Bool
-  named = knownName (part bs h.next h.value)
+  named = known_name (part bs h.next h.value)
 
   -- the names are judged after all else
-  pub scheme-then : textBody schemeName bs at h ≡ (textBody (sortIs SortV.SchemeForm) bs at h >>= (λ next. need (not named) RULE at >> ok next))
-  scheme-then =
+  pub scheme_then : text_body scheme_name bs at h ≡ (text_body (sort_is SortV.SchemeForm) bs at h >>= (λ next. need (not named) RULE at >> ok next))
+  scheme_then =
       let t = part bs h.next h.value in
-      let P = textBody schemeName bs at h ≡ (textBody (sortIs SortV.SchemeForm) bs at h >>= (λ next. need (not named) RULE at >> ok next)) in
-      let n = schemeName in
-      let f = sortIs SortV.SchemeForm in
-      by-test (λ _. P) (within 1 16 h.value)
-      (λ w. by-test (λ _. P) (leb (h.next + h.value) (length bs))
-      (λ l. let i = leb-true _ _ l in by-test (λ _. P) (utf8 t)
-      (λ u. by-test (λ _. P) (schemeForm t)
-      (λ r. by-test (λ _. P) named
-      (λ k. sym (text-against n bs at h w i u (rule-split t ∙ rw (r, k))) ∙ need-no _ _ _ _ (ap not k) ∙ bind_ok _ _ _ (text-kept f bs at h w i u r))
-      (λ k. sym (text-kept n bs at h w i u (rule-split t ∙ rw (r, k))) ∙ need-yes _ _ _ _ (ap not k) ∙ bind_ok _ _ _ (text-kept f bs at h w i u r)))
-      (λ r. sym (text-against n bs at h w i u (rule-split t ∙ rw r)) ∙ bind-refused _ _ _ _ (text-against f bs at h w i u r)))
-      (λ u. sym (text-wrong n bs at h w i u) ∙ bind-refused _ _ _ _ (text-wrong f bs at h w i u)))
-      (λ l. let o = leb-false _ _ l in sym (text-cut n bs at h w o) ∙ bind-refused _ _ _ _ (text-cut f bs at h w o)))
-      (λ w. sym (text-limit n bs at h w) ∙ bind-refused _ _ _ _ (text-limit f bs at h w))
+      let P = text_body scheme_name bs at h ≡ (text_body (sort_is SortV.SchemeForm) bs at h >>= (λ next. need (not named) RULE at >> ok next)) in
+      let n = scheme_name in
+      let f = sort_is SortV.SchemeForm in
+      by_test (λ _. P) (within 1 16 h.value)
+      (λ w. by_test (λ _. P) (leb (h.next + h.value) (length bs))
+      (λ l. let i = leb-true _ _ l in by_test (λ _. P) (utf8 t)
+      (λ u. by_test (λ _. P) (scheme_form t)
+      (λ r. by_test (λ _. P) named
+      (λ k. sym (text_against n bs at h w i u (rule_split t ∙ rw (r, k))) ∙ need_no _ _ _ _ (ap not k) ∙ bind_ok _ _ _ (text_kept f bs at h w i u r))
+      (λ k. sym (text_kept n bs at h w i u (rule_split t ∙ rw (r, k))) ∙ need_yes _ _ _ _ (ap not k) ∙ bind_ok _ _ _ (text_kept f bs at h w i u r)))
+      (λ r. sym (text_against n bs at h w i u (rule_split t ∙ rw r)) ∙ bind_refused _ _ _ _ (text_against f bs at h w i u r)))
+      (λ u. sym (text_wrong n bs at h w i u) ∙ bind_refused _ _ _ _ (text_wrong f bs at h w i u)))
+      (λ l. let o = leb-false _ _ l in sym (text_cut n bs at h w o) ∙ bind_refused _ _ _ _ (text_cut f bs at h w o)))
+      (λ w. sym (text_limit n bs at h w) ∙ bind_refused _ _ _ _ (text_limit f bs at h w))
 
 -- ---- parts of a few bytes
 
 module _ (s : Bytes) (from n : ℕ) (l : from + n ≤ length s) where
-  pub part-one : n ≡ 1 → part s from n ≡ get_or s from 0 ∷ []
-  part-one e = part-cons s from n (from + 1) 0 (omega arith) e (omega arith)
+  pub part_one : n ≡ 1 → part s from n ≡ get_or s from 0 ∷ []
+  part_one e = part_cons s from n (from + 1) 0 (omega arith) e (omega arith)
 
-  pub part-two : n ≡ 2 → part s from n ≡ get_or s from 0 ∷ get_or s (from + 1) 0 ∷ []
-  part-two e =
-      part-cons s from n (from + 1) 1 (omega arith) e (omega arith)
-      ∙ ap (λ (xs : Bytes). get_or s from 0 ∷ xs) (part-cons s (from + 1) 1 (from + 2) 0 (omega arith) refl (omega arith))
+  pub part_two : n ≡ 2 → part s from n ≡ get_or s from 0 ∷ get_or s (from + 1) 0 ∷ []
+  part_two e =
+      part_cons s from n (from + 1) 1 (omega arith) e (omega arith)
+      ∙ ap (λ (xs : Bytes). get_or s from 0 ∷ xs) (part_cons s (from + 1) 1 (from + 2) 0 (omega arith) refl (omega arith))
 
-  pub part-three : n ≡ 3 → part s from n ≡ get_or s from 0 ∷ get_or s (from + 1) 0 ∷ get_or s (from + 2) 0 ∷ []
-  part-three e =
-      part-cons s from n (from + 1) 2 (omega arith) e (omega arith)
-      ∙ ap (λ (xs : Bytes). get_or s from 0 ∷ xs) (part-cons s (from + 1) 2 (from + 2) 1 (omega arith) refl (omega arith))
-      ∙ ap (λ (xs : Bytes). get_or s from 0 ∷ get_or s (from + 1) 0 ∷ xs) (part-cons s (from + 2) 1 (from + 3) 0 (omega arith) refl (omega arith))
+  pub part_three : n ≡ 3 → part s from n ≡ get_or s from 0 ∷ get_or s (from + 1) 0 ∷ get_or s (from + 2) 0 ∷ []
+  part_three e =
+      part_cons s from n (from + 1) 2 (omega arith) e (omega arith)
+      ∙ ap (λ (xs : Bytes). get_or s from 0 ∷ xs) (part_cons s (from + 1) 2 (from + 2) 1 (omega arith) refl (omega arith))
+      ∙ ap (λ (xs : Bytes). get_or s from 0 ∷ get_or s (from + 1) 0 ∷ xs) (part_cons s (from + 2) 1 (from + 3) 0 (omega arith) refl (omega arith))
 
-  pub starts : (n ≡ 0 → ⊥) → lower (get_or s from 0) ≡ startsLower (part s from n)
-  unfolding startsLower
-  starts h = sym (ap startsLower (part-cons s from n (from + 1) (n - 1) (omega arith) (omega arith) (omega arith)))
+  pub starts : (n ≡ 0 → ⊥) → lower (get_or s from 0) ≡ starts_lower (part s from n)
+  unfolding starts_lower
+  starts h = sym (ap starts_lower (part_cons s from n (from + 1) (n - 1) (omega arith) (omega arith) (omega arith)))
 
   -- a decimal up to 255 has one to three digits
-  pub no-octet : (n ≡ 1 → ⊥) → (n ≡ 2 → ⊥) → (n ≡ 3 → ⊥) → false ≡ octet (part s from n)
+  pub no_octet : (n ≡ 1 → ⊥) → (n ≡ 2 → ⊥) → (n ≡ 3 → ⊥) → false ≡ octet (part s from n)
   unfolding octet
-  no-octet a b c = other (part s from n) (length_part s from n l)
+  no_octet a b c = other (part s from n) (length_part s from n l)
     where
       other : (t : Bytes) → length t ≡ n → false ≡ octet t
       other [] e = refl
@@ -128,46 +128,46 @@ module _ (s : Bytes) (from n : ℕ) (l : from + n ≤ length s) where
       other (x ∷ y ∷ z ∷ w ∷ t) e = refl
 
 -- three digits are two and one more
-pub octet-three : (a b c : ℕ) → octet (a ∷ b ∷ c ∷ []) ≡ (octet (a ∷ b ∷ []) && (octet (c ∷ []) && leb (a * 100 + b * 10 + c) 5583))
+pub octet_three : (a b c : ℕ) → octet (a ∷ b ∷ c ∷ []) ≡ (octet (a ∷ b ∷ []) && (octet (c ∷ []) && leb (a * 100 + b * 10 + c) 5583))
 unfolding octet
-octet-three a b c = sym (and_assoc (within 0x31 0x39 a) (digit b) _)
+octet_three a b c = sym (and_assoc (within 0x31 0x39 a) (digit b) _)
 
 -- ---- labels
 
 module _ (bs : Bytes) (here left start n : ℕ) (f : First bs here left start n) where
-  pub dotted-next : dottedLength (contents bs here left) ≡ n + 1 + dottedLength (contents bs (start + n) (left - 1))
-  unfolding dottedLength
-  dotted-next = ap dottedLength f.content ∙ ap (λ (k : ℕ). k + 1 + dottedLength (contents bs (start + n) (left - 1))) (length_part bs start n f.inside)
+  pub dotted_next : dotted_length (contents bs here left) ≡ n + 1 + dotted_length (contents bs (start + n) (left - 1))
+  unfolding dotted_length
+  dotted_next = ap dotted_length f.content ∙ ap (λ (k : ℕ). k + 1 + dotted_length (contents bs (start + n) (left - 1))) (length_part bs start n f.inside)
 
-  pub all-next : (p : Bytes → Bool) → p (part bs start n) ≡ true → all p (contents bs here left) ≡ all p (contents bs (start + n) (left - 1))
+  pub all_next : (p : Bytes → Bool) → p (part bs start n) ≡ true → all p (contents bs here left) ≡ all p (contents bs (start + n) (left - 1))
   unfolding all
-  all-next p e = ap (all p) f.content ∙ rw e
+  all_next p e = ap (all p) f.content ∙ rw e
 
-  pub all-no : (p : Bytes → Bool) → p (part bs start n) ≡ false → all p (contents bs here left) ≡ false
+  pub all_no : (p : Bytes → Bool) → p (part bs start n) ≡ false → all p (contents bs here left) ≡ false
   unfolding all
-  all-no p e = ap (all p) f.content ∙ rw e
+  all_no p e = ap (all p) f.content ∙ rw e
 
 -- with a dot after each, labels are one byte longer than with a dot between any two
-dotted-join : (t : Bytes) (ts : List Bytes) → dottedLength (t ∷ ts) ≡ length (join dot (t ∷ ts)) + 1
-unfolding dottedLength join
-dotted-join t [] = omega arith
-dotted-join t (u ∷ ts) = omega (arith, length-append t (dot ∷ join dot (u ∷ ts)), dotted-join u ts)
+dotted_join : (t : Bytes) (ts : List Bytes) → dotted_length (t ∷ ts) ≡ length (join dot (t ∷ ts)) + 1
+unfolding dotted_length join
+dotted_join t [] = omega arith
+dotted_join t (u ∷ ts) = omega (arith, length-append t (dot ∷ join dot (u ∷ ts)), dotted_join u ts)
 
-pub name-long : (ts : List Bytes) → 256 < dottedLength ts → false ≡ nameRule ts
-unfolding nameRule dottedLength
-name-long [] h = absurd (omega arith)
-name-long (t ∷ ts) h = rw (lt-leb (length (join dot (t ∷ ts))) 255 (omega (arith, dotted-join t ts)))
+pub name_long : (ts : List Bytes) → 256 < dotted_length ts → false ≡ name_rule ts
+unfolding name_rule dotted_length
+name_long [] h = absurd (omega arith)
+name_long (t ∷ ts) h = rw (lt-leb (length (join dot (t ∷ ts))) 255 (omega (arith, dotted_join t ts)))
 
-pub name-looks : (ts : List Bytes) → dottedLength ts ≤ 256 → not (looksIPv4 ts) ≡ nameRule ts
-unfolding nameRule dottedLength join
-name-looks [] h = refl
-name-looks (t ∷ ts) h = rw (le-leb (length (join dot (t ∷ ts))) 255 (omega (arith, dotted-join t ts)))
+pub name_looks : (ts : List Bytes) → dotted_length ts ≤ 256 → not (looks_ipv4 ts) ≡ name_rule ts
+unfolding name_rule dotted_length join
+name_looks [] h = refl
+name_looks (t ∷ ts) h = rw (le-leb (length (join dot (t ∷ ts))) 255 (omega (arith, dotted_join t ts)))
 
 module _ (bs : Bytes) (at n : ℕ) where
-  pub looks-other : (n ≡ 4 → ⊥) → false ≡ looksIPv4 (contents bs at n)
-  unfolding looksIPv4
-  looks-other h = rw (length-contents bs at n, ne_eqb n 4 h)
+  pub looks_other : (n ≡ 4 → ⊥) → false ≡ looks_ipv4 (contents bs at n)
+  unfolding looks_ipv4
+  looks_other h = rw (length_contents bs at n, ne_eqb n 4 h)
 
-  pub looks-four : n ≡ 4 → looksIPv4 (contents bs at n) ≡ all octet (contents bs at n)
-  unfolding looksIPv4
-  looks-four e = rw (length-contents bs at n, eq-eqb n 4 e)
+  pub looks_four : n ≡ 4 → looks_ipv4 (contents bs at n) ≡ all octet (contents bs at n)
+  unfolding looks_ipv4
+  looks_four e = rw (length_contents bs at n, eq-eqb n 4 e)

@@ -9,23 +9,23 @@ use Rattle.texts.specs.declared.Step.{Step}
 use Rattle.texts.specs.declared.Step.TheVariants as StepV
 
 -- RULES 1.7, but for the names of the table: a lower-case letter, then lower-case letters, digits, "+", "." or "-"
-unfoldable pub schemeForm : Bytes → Bool
-schemeForm t = Rules.startsLower t && all Rules.schemeByte t
+unfoldable pub scheme_form : Bytes → Bool
+scheme_form t = Rules.starts_lower t && all Rules.scheme_byte t
 
 -- the sizes and the rule of a sort of text
-abbrev pub sortIs : Sort → Rules.Sort
-sortIs SortV.SchemeForm = record { low = (Rules.schemeName).low; high = (Rules.schemeName).high; rule = schemeForm }
-sortIs SortV.Label = Rules.label
-sortIs SortV.Segment = Rules.segment
-sortIs SortV.Parameter = Rules.parameter
-sortIs SortV.Fragment = Rules.fragmentText
+abbrev pub sort_is : Sort → Rules.Sort
+sort_is SortV.SchemeForm = record { low = (Rules.scheme_name).low; high = (Rules.scheme_name).high; rule = scheme_form }
+sort_is SortV.Label = Rules.label
+sort_is SortV.Segment = Rules.segment
+sort_is SortV.Parameter = Rules.parameter
+sort_is SortV.Fragment = Rules.fragment_text
 
 -- the answer on an item at a position: the position after it, or a refusal, whose place is the item's
-abbrev pub stepIs : ℕ → Step → Res ℕ
-stepIs at (StepV.Next next) = ok next
-stepIs at (StepV.Refused n) = refused n at
+abbrev pub step_is : ℕ → Step → Res ℕ
+step_is at (StepV.Next next) = ok next
+step_is at (StepV.Refused n) = refused n at
 
 -- the length of labels, each with a dot after it
-unfoldable pub dottedLength : List Bytes → ℕ
-dottedLength [] = 0
-dottedLength (t ∷ ts) = length t + 1 + dottedLength ts
+unfoldable pub dotted_length : List Bytes → ℕ
+dotted_length [] = 0
+dotted_length (t ∷ ts) = length t + 1 + dotted_length ts

@@ -2,10 +2,10 @@
 ghost use Rattle.std.specs.Prelude.{◌≡◌, [], ◌∷◌, ℕ, ◌+◌, ◌≤◌, length};
 ghost use Rattle.rules.specs.Bytes.{part, within, all};
 ghost use Rattle.rules.specs.Head.{Kind};
-ghost use Rattle.rules.specs.Rules.{schemeByte, startsLower, schemeName, labelByte, labelRule, segmentRule, octet, looksIPv4, nameRule};
-ghost use Rattle.rules.specs.Reader.{textBody, contents};
+ghost use Rattle.rules.specs.Rules.{scheme_byte, starts_lower, scheme_name, label_byte, label_rule, segment_rule, octet, looks_ipv4, name_rule};
+ghost use Rattle.rules.specs.Reader.{text_body, contents};
 ghost use Rattle.rules.specs.Standing.{RowAt};
-ghost use Rattle.texts.specs.Answers.{schemeForm, sortIs, stepIs, dottedLength};
+ghost use Rattle.texts.specs.Answers.{scheme_form, sort_is, step_is, dotted_length};
 
 use numbers::{CUT, LABEL_BYTES, LIMIT, NAME_BYTES, RULE, SCHEME_BYTES, TEXT, TEXT_BYTES};
 use same_bytes::same_at;
@@ -34,7 +34,7 @@ pub enum Step {
 
 // A lower-case letter, a digit, "+", "." or "-".
 fn scheme_byte(b: u8) -> bool
-    ensures { result ≡ schemeByte b }
+    ensures { result ≡ scheme_byte b }
 {
     if inside(b, 0x61, 0x7a) {
         return true;
@@ -53,7 +53,7 @@ fn scheme_byte(b: u8) -> bool
 
 fn scheme_bytes(s: &[u8], from: usize, n: usize) -> bool
     requires { from + n ≤ length s.now }
-    ensures { result ≡ all schemeByte (part s.now from n) }
+    ensures { result ≡ all scheme_byte (part s.now from n) }
 {
     let end = from + n;
     let mut i = from;
@@ -69,7 +69,7 @@ fn scheme_bytes(s: &[u8], from: usize, n: usize) -> bool
 
 fn starts_lower(s: &[u8], from: usize, n: usize) -> bool
     requires { from + n ≤ length s.now }
-    ensures { result ≡ startsLower (part s.now from n) }
+    ensures { result ≡ starts_lower (part s.now from n) }
 {
     if n == 0 {
         return false;
@@ -80,7 +80,7 @@ fn starts_lower(s: &[u8], from: usize, n: usize) -> bool
 // The bytes of a scheme given as text: a lower-case letter first.
 fn scheme_form(s: &[u8], from: usize, n: usize) -> bool
     requires { from + n ≤ length s.now }
-    ensures { result ≡ schemeForm (part s.now from n) }
+    ensures { result ≡ scheme_form (part s.now from n) }
 {
     if starts_lower(s, from, n) {
         return scheme_bytes(s, from, n);
@@ -90,7 +90,7 @@ fn scheme_form(s: &[u8], from: usize, n: usize) -> bool
 
 // Neither ".", "[" nor "]", nor A to Z.
 fn label_byte(b: u8) -> bool
-    ensures { result ≡ labelByte b }
+    ensures { result ≡ label_byte b }
 {
     if b == 0x2e {
         return false;
@@ -106,7 +106,7 @@ fn label_byte(b: u8) -> bool
 
 fn label_rule(s: &[u8], from: usize, n: usize) -> bool
     requires { from + n ≤ length s.now }
-    ensures { result ≡ labelRule (part s.now from n) }
+    ensures { result ≡ label_rule (part s.now from n) }
 {
     let end = from + n;
     let mut i = from;
@@ -123,7 +123,7 @@ fn label_rule(s: &[u8], from: usize, n: usize) -> bool
 // Never "." or "..".
 fn segment_rule(s: &[u8], from: usize, n: usize) -> bool
     requires { from + n ≤ length s.now }
-    ensures { result ≡ segmentRule (part s.now from n) }
+    ensures { result ≡ segment_rule (part s.now from n) }
 {
     if same_at(s, from, n, b".") {
         return false;
@@ -134,7 +134,7 @@ fn segment_rule(s: &[u8], from: usize, n: usize) -> bool
 // Whether a text keeps the rule of its sort.
 fn keeps_rule(s: &[u8], from: usize, n: usize, sort: Sort) -> bool
     requires { from + n ≤ length s.now }
-    ensures { result ≡ (sortIs sort).rule (part s.now from n) }
+    ensures { result ≡ (sort_is sort).rule (part s.now from n) }
 {
     match sort {
         Sort::SchemeForm => scheme_form(s, from, n),
@@ -147,7 +147,7 @@ fn keeps_rule(s: &[u8], from: usize, n: usize, sort: Sort) -> bool
 
 // The least length of a text.
 fn least_of(sort: Sort) -> u64
-    ensures { result ≡ (sortIs sort).low }
+    ensures { result ≡ (sort_is sort).low }
 {
     match sort {
         Sort::SchemeForm => 1,
@@ -160,7 +160,7 @@ fn least_of(sort: Sort) -> u64
 
 // The greatest length of a text.
 fn most_of(sort: Sort) -> u64
-    ensures { result ≡ (sortIs sort).high }
+    ensures { result ≡ (sort_is sort).high }
 {
     match sort {
         Sort::SchemeForm => SCHEME_BYTES,
@@ -173,7 +173,7 @@ fn most_of(sort: Sort) -> u64
 
 // Whether a text may have n bytes.
 fn length_fits(n: u64, sort: Sort) -> bool
-    ensures { result ≡ within (sortIs sort).low (sortIs sort).high n }
+    ensures { result ≡ within (sort_is sort).low (sort_is sort).high n }
 {
     if n < least_of(sort) {
         return false;
@@ -184,7 +184,7 @@ fn length_fits(n: u64, sort: Sort) -> bool
 // A text of n bytes, whose head has been read and ends at a position.
 pub fn text_body(s: &[u8], next: usize, n: u64, sort: Sort) -> Step
     requires { next ≤ length s.now }
-    ensures { (k : Kind) (at : ℕ) → stepIs at result ≡ textBody (sortIs sort) s.now at (record { kind = k; value = n; next = next }) }
+    ensures { (k : Kind) (at : ℕ) → step_is at result ≡ text_body (sort_is sort) s.now at (record { kind = k; value = n; next = next }) }
 {
     if !length_fits(n, sort) {
         return Step::Refused(LIMIT);
@@ -205,7 +205,7 @@ pub fn text_body(s: &[u8], next: usize, n: u64, sort: Sort) -> Step
 // The text of a scheme, of n bytes, whose head has been read and ends at a position: none of the names of the table.
 pub fn scheme_body(s: &[u8], next: usize, n: u64) -> Step
     requires { next ≤ length s.now }
-    ensures { (k : Kind) (at : ℕ) → stepIs at result ≡ textBody schemeName s.now at (record { kind = k; value = n; next = next }) }
+    ensures { (k : Kind) (at : ℕ) → step_is at result ≡ text_body scheme_name s.now at (record { kind = k; value = n; next = next }) }
 {
     match text_body(s, next, n, Sort::SchemeForm) {
         Step::Refused(k) => Step::Refused(k),
@@ -221,7 +221,7 @@ pub fn scheme_body(s: &[u8], next: usize, n: u64) -> Step
 // The length of labels that were accepted, each with a dot after it.
 fn dotted_length(s: &[u8], at: usize, count: usize) -> usize
     requires { (RowAt s.now at count) × (at ≤ length s.now) }
-    ensures { result ≡ dottedLength (contents s.now at count) }
+    ensures { result ≡ dotted_length (contents s.now at count) }
 {
     let mut here = at;
     let mut left = count;
@@ -280,7 +280,7 @@ fn octet_at(s: &[u8], from: usize, n: usize) -> bool
 // Whether labels that were accepted would print as an IPv4 address.
 fn looks_ipv4(s: &[u8], at: usize, count: usize) -> bool
     requires { RowAt s.now at count }
-    ensures { result ≡ looksIPv4 (contents s.now at count) }
+    ensures { result ≡ looks_ipv4 (contents s.now at count) }
 {
     if count != 4 {
         return false;
@@ -302,7 +302,7 @@ fn looks_ipv4(s: &[u8], at: usize, count: usize) -> bool
 // The rules over all labels, which were accepted one by one.
 pub fn name_rule(s: &[u8], at: usize, count: usize) -> bool
     requires { (RowAt s.now at count) × (at ≤ length s.now) }
-    ensures { result ≡ nameRule (contents s.now at count) }
+    ensures { result ≡ name_rule (contents s.now at count) }
 {
     if DOTTED_BYTES < dotted_length(s, at, count) {
         return false;

@@ -11,54 +11,54 @@ use lib.Seq.{drop-cons}
 use lib.Dec.{leb}
 use borrow.Author.Tests.{ne_eqb, leb-true, lt-ltb, le-ltb}
 use Rattle.rules.specs.Bytes.{Bytes, within}
-use Rattle.rules.proofs.Tools.{cond-split, and_right}
+use Rattle.rules.proofs.Tools.{cond_split, and_right}
 use Rattle.words.specs.declared.Hex.TheVariants as HexV
-use Rattle.words.specs.Words.{pairBytes, hexOf, roomAfter}
-use Rattle.tool_input.specs.Plain.{isBlank, lowerCase, plain_byte, plain, typed_of}
+use Rattle.words.specs.Words.{pair_bytes, hex_of, room_after}
+use Rattle.tool_input.specs.Plain.{is_blank, lower_case, plain_byte, plain, typed_of}
 
 module _ (c : ℕ) where
-  pub blank-space : c ≡ 0x20 → true ≡ isBlank c
-  unfolding isBlank
-  blank-space e = rw e
+  pub blank_space : c ≡ 0x20 → true ≡ is_blank c
+  unfolding is_blank
+  blank_space e = rw e
 
-  pub blank-other : c ≢ 0x20 → within 0x09 0x0D c ≡ isBlank c
-  unfolding isBlank
-  blank-other h = rw (ne_eqb c 0x20 h)
+  pub blank_other : c ≢ 0x20 → within 0x09 0x0D c ≡ is_blank c
+  unfolding is_blank
+  blank_other h = rw (ne_eqb c 0x20 h)
 
-  pub lower-letter : within 0x41 0x46 c ≡ true → c + 0x20 ≡ lowerCase c
-  unfolding lowerCase
-  lower-letter e = rw e
+  pub lower_letter : within 0x41 0x46 c ≡ true → c + 0x20 ≡ lower_case c
+  unfolding lower_case
+  lower_letter e = rw e
 
-  pub lower-other : within 0x41 0x46 c ≡ false → c ≡ lowerCase c
-  unfolding lowerCase
-  lower-other e = rw e
+  pub lower_other : within 0x41 0x46 c ≡ false → c ≡ lower_case c
+  unfolding lower_case
+  lower_other e = rw e
 
   -- so that 32 more is a byte
-  pub letter-small : within 0x41 0x46 c ≡ true → c ≤ 0x46
-  letter-small e = leb-true c 0x46 (and_right (leb 0x41 c) _ e)
+  pub letter_small : within 0x41 0x46 c ≡ true → c ≤ 0x46
+  letter_small e = leb-true c 0x46 (and_right (leb 0x41 c) _ e)
 
-  pub blank-byte : isBlank c ≡ true → plain_byte c ≡ []
+  pub blank_byte : is_blank c ≡ true → plain_byte c ≡ []
   unfolding plain_byte
-  blank-byte e = rw e
+  blank_byte e = rw e
 
-  pub other_byte : isBlank c ≡ false → plain_byte c ≡ lowerCase c ∷ []
+  pub other_byte : is_blank c ≡ false → plain_byte c ≡ lower_case c ∷ []
   unfolding plain_byte
   other_byte e = rw e
 
 -- no byte becomes longer
-byte-length : (c : ℕ) → length (plain_byte c) ≤ 1
+byte_length : (c : ℕ) → length (plain_byte c) ≤ 1
 unfolding plain_byte
-byte-length c = cond-split (λ (w : Bytes). length w ≤ 1) (isBlank c) (λ e. omega arith) (λ e. omega arith)
+byte_length c = cond_split (λ (w : Bytes). length w ≤ 1) (is_blank c) (λ e. omega arith) (λ e. omega arith)
 
-pub plain-length : (w : Bytes) → length (plain w) ≤ length w
+pub plain_length : (w : Bytes) → length (plain w) ≤ length w
 unfolding plain
-plain-length [] = omega arith
-plain-length (c ∷ w) = omega (arith, length-append (plain_byte c) (plain w), byte-length c, plain-length w)
+plain_length [] = omega arith
+plain_length (c ∷ w) = omega (arith, length-append (plain_byte c) (plain w), byte_length c, plain_length w)
 
 module _ (w : Bytes) (i : ℕ) where
-  pub plain-next : i < length w → plain (drop i w) ≡ plain_byte (get_or w i 0) ++ plain (drop (i + 1) w)
+  pub plain_next : i < length w → plain (drop i w) ≡ plain_byte (get_or w i 0) ++ plain (drop (i + 1) w)
   unfolding plain
-  plain-next h = rw (add-one, drop-cons w i 0)
+  plain_next h = rw (add-one, drop-cons w i 0)
 
   pub plain_end : length w ≤ i → plain (drop i w) ≡ []
   unfolding plain
@@ -75,15 +75,15 @@ module _ (w : Bytes) (scratch room : ℕ) where
   unfolding typed_of
   typed_long h = rw (lt-ltb scratch (length w) h)
 
-  pub typed-blank : length w ≤ scratch → length (plain w) ≡ 0 → HexV.Bytes 0 ≡ typed_of w scratch room
+  pub typed_blank : length w ≤ scratch → length (plain w) ≡ 0 → HexV.Bytes 0 ≡ typed_of w scratch room
   unfolding typed_of
-  typed-blank h e = rw (le-ltb scratch (length w) h, e)
+  typed_blank h e = rw (le-ltb scratch (length w) h, e)
 
-  pub typed-hex : length w ≤ scratch → length (plain w) ≢ 0 → hexOf (plain w) room ≡ typed_of w scratch room
+  pub typed_hex : length w ≤ scratch → length (plain w) ≢ 0 → hex_of (plain w) room ≡ typed_of w scratch room
   unfolding typed_of
-  typed-hex h e = rw (le-ltb scratch (length w) h, ne_eqb (length (plain w)) 0 e)
+  typed_hex h e = rw (le-ltb scratch (length w) h, ne_eqb (length (plain w)) 0 e)
 
 -- a room after no bytes
-pub after-blank : (w room : Bytes) → length (plain w) ≡ 0 → room ≡ roomAfter (HexV.Bytes 0) (plain w) room
-unfolding pairBytes
-after-blank w room e = rw (empty_of (plain w) e)
+pub after_blank : (w room : Bytes) → length (plain w) ≡ 0 → room ≡ room_after (HexV.Bytes 0) (plain w) room
+unfolding pair_bytes
+after_blank w room e = rw (empty_of (plain w) e)

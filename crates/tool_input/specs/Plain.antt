@@ -3,19 +3,19 @@ use Rattle.std.specs.Prelude.{ℕ, ◌+◌, Bool, cond, ◌||◌, [], ◌∷◌,
 use Rattle.rules.specs.Bytes.{Bytes, within}
 use Rattle.words.specs.declared.Hex.{Hex}
 use Rattle.words.specs.declared.Hex.TheVariants as HexV
-use Rattle.words.specs.Words.{hexOf}
+use Rattle.words.specs.Words.{hex_of}
 
 -- a space, a tab or the end of a line
-unfoldable pub isBlank : ℕ → Bool
-isBlank c = eqb c 0x20 || within 0x09 0x0D c
+unfoldable pub is_blank : ℕ → Bool
+is_blank c = eqb c 0x20 || within 0x09 0x0D c
 
 -- "a" to "f" of "A" to "F", and any other byte as it is
-unfoldable pub lowerCase : ℕ → ℕ
-lowerCase c = cond (within 0x41 0x46 c) (c + 0x20) c
+unfoldable pub lower_case : ℕ → ℕ
+lower_case c = cond (within 0x41 0x46 c) (c + 0x20) c
 
 -- nothing of a blank
 unfoldable pub plain_byte : ℕ → Bytes
-plain_byte c = cond (isBlank c) [] (lowerCase c ∷ [])
+plain_byte c = cond (is_blank c) [] (lower_case c ∷ [])
 
 unfoldable pub plain : Bytes → Bytes
 plain [] = []
@@ -23,4 +23,4 @@ plain (c ∷ cs) = plain_byte c ++ plain cs
 
 -- what a word says in a room of this length: blanks alone say no bytes; a word longer than the scratch is not looked at
 unfoldable pub typed_of : Bytes → ℕ → ℕ → Hex
-typed_of w scratch room = cond (ltb scratch (length w)) HexV.TooLong (cond (eqb (length (plain w)) 0) (HexV.Bytes 0) (hexOf (plain w) room))
+typed_of w scratch room = cond (ltb scratch (length w)) HexV.TooLong (cond (eqb (length (plain w)) 0) (HexV.Bytes 0) (hex_of (plain w) room))

@@ -1,8 +1,8 @@
 // What people type: bytes in hex, upper or lower case and with blanks, and addresses.
 ghost use Rattle.std.specs.Prelude.{◌+◌, ◌≤◌, ◌≡◌, length};
 ghost use Rattle.put.specs.Wrote.{Wrote};
-ghost use Rattle.words.specs.Words.{roomAfter};
-ghost use Rattle.tool_input.specs.Plain.{isBlank, lowerCase, plain_byte, plain, typed_of};
+ghost use Rattle.words.specs.Words.{room_after};
+ghost use Rattle.tool_input.specs.Plain.{is_blank, lower_case, plain_byte, plain, typed_of};
 
 use utf8::inside;
 pub use words::Hex;
@@ -13,7 +13,7 @@ pub use address::{Destination, address_bytes};
 
 // Whether a byte is a space, a tab or the end of a line.
 fn is_blank(c: u8) -> bool
-    ensures { result ≡ isBlank c }
+    ensures { result ≡ is_blank c }
 {
     if c == b' ' {
         return true;
@@ -23,7 +23,7 @@ fn is_blank(c: u8) -> bool
 
 // "a" to "f" of "A" to "F", and any other byte as it is.
 pub fn lower(c: u8) -> u8
-    ensures { result ≡ lowerCase c }
+    ensures { result ≡ lower_case c }
 {
     if inside(c, b'A', b'F') { c + 32 } else { c }
 }
@@ -57,7 +57,7 @@ fn put_plain(room: &mut [u8], word: &[u8]) -> usize
 // The bytes that a word of hex says, put at the start of the room. The scratch is as long as the word, or longer.
 pub fn hex_bytes(room: &mut [u8], scratch: &mut [u8], word: &[u8]) -> Hex
     ensures value { result ≡ typed_of word.now (length scratch.old) (length room.old) }
-    ensures room_after { room.new ≡ roomAfter result (plain word.now) room.old }
+    ensures room_after { room.new ≡ room_after result (plain word.now) room.old }
 {
     if scratch.len() < word.len() {
         return Hex::TooLong;

@@ -5,45 +5,45 @@ use mathlib.Core.Path.{◌≡◌, ap}
 use mathlib.Core.List.{[], ◌∷◌, ◌++◌}
 use lib.ListN.{length, length-append}
 use Rattle.rules.specs.Bytes.{Bytes, colon, slash}
-use Rattle.rules.specs.Reader.{AuthorityAt, SchemeAt, OpeningAt, discardAt, discardAllAt, fullAt, Found}
-use Rattle.rules.specs.Meaning.{saidTexts, saidText, saidHost, saidScheme, saidOpening}
+use Rattle.rules.specs.Reader.{AuthorityAt, SchemeAt, OpeningAt, discard_at, discard_all_at, full_at, Found}
+use Rattle.rules.specs.Meaning.{said_texts, said_text, said_host, said_scheme, said_opening}
 use Rattle.rules.specs.Valid.{GoodPort}
 use Rattle.rules.specs.Standing.{SchemeStands}
-use Rattle.uri_parts.specs.Pieces.{schemePiece, hostPiece, portPiece, pathPiece, queryPiece, fragmentPiece, HostPrints}
-use Rattle.uri.specs.Printed.{originPiece, textPieces, textAt, OpeningPrints}
+use Rattle.uri_parts.specs.Pieces.{scheme_piece, host_piece, port_piece, path_piece, query_piece, fragment_piece, HostPrints}
+use Rattle.uri.specs.Printed.{origin_piece, text_pieces, text_at, OpeningPrints}
 
 module _ (bs : Bytes) where
-  pub origin-discard : {o : OpeningAt} {k : ℕ} → o ≡ discardAt k → [] ≡ originPiece (saidOpening bs o)
-  unfolding originPiece
-  origin-discard e = rw e
+  pub origin_discard : {o : OpeningAt} {k : ℕ} → o ≡ discard_at k → [] ≡ origin_piece (said_opening bs o)
+  unfolding origin_piece
+  origin_discard e = rw e
 
-  pub origin-all : {o : OpeningAt} → o ≡ discardAllAt → [] ≡ originPiece (saidOpening bs o)
-  unfolding originPiece
-  origin-all e = rw e
+  pub origin_all : {o : OpeningAt} → o ≡ discard_all_at → [] ≡ origin_piece (said_opening bs o)
+  unfolding origin_piece
+  origin_all e = rw e
 
-  pub origin-full : {o : OpeningAt} {s : SchemeAt} {a : AuthorityAt} → o ≡ fullAt s a
-      → schemePiece (saidScheme bs s) ++ ((colon ∷ slash ∷ []) ++ (hostPiece (saidHost bs a.host) ++ portPiece a.port)) ≡ originPiece (saidOpening bs o)
-  unfolding originPiece
-  origin-full e = rw e
+  pub origin_full : {o : OpeningAt} {s : SchemeAt} {a : AuthorityAt} → o ≡ full_at s a
+      → scheme_piece (said_scheme bs s) ++ ((colon ∷ slash ∷ []) ++ (host_piece (said_host bs a.host) ++ port_piece a.port)) ≡ origin_piece (said_opening bs o)
+  unfolding origin_piece
+  origin_full e = rw e
 
-  pub full-prints : {o : OpeningAt} {s : SchemeAt} {a : AuthorityAt} → o ≡ fullAt s a → OpeningPrints bs o
+  pub full_prints : {o : OpeningAt} {s : SchemeAt} {a : AuthorityAt} → o ≡ full_at s a → OpeningPrints bs o
       → SchemeStands bs s × HostPrints bs a.host × GoodPort a.port
-  full-prints e h = rw e at h
+  full_prints e h = rw e at h
 
-  pub origin-sum : {o : OpeningAt} {s : SchemeAt} {a : AuthorityAt} → o ≡ fullAt s a
-      → length (originPiece (saidOpening bs o)) ≡ length (schemePiece (saidScheme bs s)) + 2 + length (hostPiece (saidHost bs a.host)) + length (portPiece a.port)
-  origin-sum {o} {s} {a} e =
-      let h : Bytes = hostPiece (saidHost bs a.host) in
-      let p : Bytes = portPiece a.port in
-      omega (arith, ap length (origin-full e), length-append (schemePiece (saidScheme bs s)) (colon ∷ slash ∷ (h ++ p)), length-append h p)
+  pub origin_sum : {o : OpeningAt} {s : SchemeAt} {a : AuthorityAt} → o ≡ full_at s a
+      → length (origin_piece (said_opening bs o)) ≡ length (scheme_piece (said_scheme bs s)) + 2 + length (host_piece (said_host bs a.host)) + length (port_piece a.port)
+  origin_sum {o} {s} {a} e =
+      let h : Bytes = host_piece (said_host bs a.host) in
+      let p : Bytes = port_piece a.port in
+      omega (arith, ap length (origin_full e), length-append (scheme_piece (said_scheme bs s)) (colon ∷ slash ∷ (h ++ p)), length-append h p)
 
-  pub text-sum : (f : Found)
-      → length (textAt bs f)
-      ≡ length (originPiece (saidOpening bs f.opening)) + length (pathPiece (saidTexts bs f.path)) + length (queryPiece (saidTexts bs f.query)) + length (fragmentPiece (saidText bs f.fragment))
-  unfolding textPieces
-  text-sum f =
-      let o : Bytes = originPiece (saidOpening bs f.opening) in
-      let p : Bytes = pathPiece (saidTexts bs f.path) in
-      let q : Bytes = queryPiece (saidTexts bs f.query) in
-      let g : Bytes = fragmentPiece (saidText bs f.fragment) in
+  pub text_sum : (f : Found)
+      → length (text_at bs f)
+      ≡ length (origin_piece (said_opening bs f.opening)) + length (path_piece (said_texts bs f.path)) + length (query_piece (said_texts bs f.query)) + length (fragment_piece (said_text bs f.fragment))
+  unfolding text_pieces
+  text_sum f =
+      let o : Bytes = origin_piece (said_opening bs f.opening) in
+      let p : Bytes = path_piece (said_texts bs f.path) in
+      let q : Bytes = query_piece (said_texts bs f.query) in
+      let g : Bytes = fragment_piece (said_text bs f.fragment) in
       omega (arith, length-append o (p ++ (q ++ g)), length-append p (q ++ g), length-append q g)

@@ -1,15 +1,15 @@
 // The URI text of an absolute CRI: read, measured where the room is short, and written part by part.
 ghost use Rattle.std.specs.Prelude.{◌+◌, ◌≤◌, ◌≡◌, length, leb};
 ghost use Rattle.rules.specs.Model.{limits};
-ghost use Rattle.rules.specs.Meaning.{saidOpening};
+ghost use Rattle.rules.specs.Meaning.{said_opening};
 ghost use Rattle.rules.specs.Result.{ok};
-ghost use Rattle.rules.specs.Calls.{outcome, after, textCall};
+ghost use Rattle.rules.specs.Calls.{outcome, after, text_call};
 ghost use Rattle.put.specs.Wrote.{Wrote};
 ghost use Rattle.uri_escape.specs.Escape.{Table};
-ghost use Rattle.reader.specs.Answers.{openingOf, foundOf};
-ghost use Rattle.outcomes.specs.Answers.{outcomeIs};
+ghost use Rattle.reader.specs.Answers.{opening_of, found_of};
+ghost use Rattle.outcomes.specs.Answers.{outcome_is};
 ghost use Rattle.uri_parts.specs.Pieces.{Short};
-ghost use Rattle.uri.specs.Printed.{originPiece, textAt, OpeningPrints, Prints};
+ghost use Rattle.uri.specs.Printed.{origin_piece, text_at, OpeningPrints, Prints};
 
 use numbers::{BASE, ROOM};
 use outcomes::Outcome;
@@ -27,9 +27,9 @@ use uri_parts::{
 fn origin_length(s: &[u8], opening: OpeningAt, table: &[u8; 256]) -> usize
     requires table { Table table.now }
     requires s_len_bound { length s.now ≤ limits.bytes }
-    requires opening_prints { OpeningPrints s.now (openingOf opening) }
-    requires short { Short (originPiece (saidOpening s.now (openingOf opening))) }
-    ensures { result ≡ length (originPiece (saidOpening s.now (openingOf opening))) }
+    requires opening_prints { OpeningPrints s.now (opening_of opening) }
+    requires short { Short (origin_piece (said_opening s.now (opening_of opening))) }
+    ensures { result ≡ length (origin_piece (said_opening s.now (opening_of opening))) }
 {
     match opening {
         OpeningAt::Discard(_) => 0,
@@ -45,9 +45,9 @@ fn origin_length(s: &[u8], opening: OpeningAt, table: &[u8; 256]) -> usize
 // Scheme, "://", host and port. The last "/" comes with the host.
 fn put_origin(room: &mut [u8], at: usize, s: &[u8], opening: OpeningAt, table: &[u8; 256]) -> usize
     requires table { Table table.now }
-    requires opening_prints { OpeningPrints s.now (openingOf opening) }
-    requires opening_in_bounds { at + length (originPiece (saidOpening s.now (openingOf opening))) ≤ length room.old }
-    ensures { Wrote room.old at (originPiece (saidOpening s.now (openingOf opening))) room.new result }
+    requires opening_prints { OpeningPrints s.now (opening_of opening) }
+    requires opening_in_bounds { at + length (origin_piece (said_opening s.now (opening_of opening))) ≤ length room.old }
+    ensures { Wrote room.old at (origin_piece (said_opening s.now (opening_of opening))) room.new result }
 {
     match opening {
         OpeningAt::Discard(_) => at,
@@ -68,8 +68,8 @@ fn put_origin(room: &mut [u8], at: usize, s: &[u8], opening: OpeningAt, table: &
 // How long the text is.
 fn text_length(s: &[u8], found: Found, table: &[u8; 256]) -> usize
     requires table { Table table.now }
-    requires prints { Prints s.now (foundOf found) }
-    ensures { result ≡ length (textAt s.now (foundOf found)) }
+    requires prints { Prints s.now (found_of found) }
+    ensures { result ≡ length (text_at s.now (found_of found)) }
 {
     let opening = found.opening;
     let path = found.path;
@@ -84,9 +84,9 @@ fn text_length(s: &[u8], found: Found, table: &[u8; 256]) -> usize
 // The text, from the start of the room on.
 fn put_text(room: &mut [u8], s: &[u8], found: Found, table: &[u8; 256]) -> usize
     requires table { Table table.now }
-    requires prints { Prints s.now (foundOf found) }
-    requires found_in_bounds { length (textAt s.now (foundOf found)) ≤ length room.old }
-    ensures { Wrote room.old 0 (textAt s.now (foundOf found)) room.new result }
+    requires prints { Prints s.now (found_of found) }
+    requires found_in_bounds { length (text_at s.now (found_of found)) ≤ length room.old }
+    ensures { Wrote room.old 0 (text_at s.now (found_of found)) room.new result }
 {
     let opening = found.opening;
     let path = found.path;
@@ -101,8 +101,8 @@ fn put_text(room: &mut [u8], s: &[u8], found: Found, table: &[u8; 256]) -> usize
 // Whether the text has at most `size` bytes. None has more than 3n + 13, so it is measured only for less room than that.
 fn has_room(s: &[u8], found: Found, size: usize, table: &[u8; 256]) -> bool
     requires table { Table table.now }
-    requires prints { Prints s.now (foundOf found) }
-    ensures { result ≡ leb (length (textAt s.now (foundOf found))) size }
+    requires prints { Prints s.now (found_of found) }
+    ensures { result ≡ leb (length (text_at s.now (found_of found))) size }
 {
     if 3 * s.len() + 13 <= size {
         return true;
@@ -113,9 +113,9 @@ fn has_room(s: &[u8], found: Found, size: usize, table: &[u8; 256]) -> bool
 // The text of an absolute reference; 10 where the room is shorter.
 fn print(s: &[u8], found: Found, room: &mut [u8], table: &[u8; 256]) -> Outcome
     requires table { Table table.now }
-    requires prints { Prints s.now (foundOf found) }
-    ensures result_value { outcomeIs result ≡ outcome (ok (textAt s.now (foundOf found))) (length room.old) }
-    ensures room_after { room.new ≡ after (ok (textAt s.now (foundOf found))) room.old }
+    requires prints { Prints s.now (found_of found) }
+    ensures result_value { outcome_is result ≡ outcome (ok (text_at s.now (found_of found))) (length room.old) }
+    ensures room_after { room.new ≡ after (ok (text_at s.now (found_of found))) room.old }
 {
     if has_room(s, found, room.len(), table) {
         return Outcome::Written(put_text(room, s, found, table));
@@ -125,8 +125,8 @@ fn print(s: &[u8], found: Found, room: &mut [u8], table: &[u8; 256]) -> Outcome
 
 // The answer, and the URI text in the room.
 pub fn uri_text(s: &[u8], room: &mut [u8]) -> Outcome
-    ensures result_value { outcomeIs result ≡ outcome (textCall limits s.now) (length room.old) }
-    ensures room_after { room.new ≡ after (textCall limits s.now) room.old }
+    ensures result_value { outcome_is result ≡ outcome (text_call limits s.now) (length room.old) }
+    ensures room_after { room.new ≡ after (text_call limits s.now) room.old }
 {
     // before the reader runs, where its stores cost least
     let table = bare_table();

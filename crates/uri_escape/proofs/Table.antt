@@ -9,8 +9,8 @@ use lib.ListN.{length, get_or}
 use Rattle.rules.specs.Bytes.{Bytes, part, all}
 use Rattle.rules.specs.Text.{Class, Label, Segment, Parameter, Fragment, bare}
 use Rattle.rules.proofs.Compute.{computed}
-use Rattle.rules.proofs.Tools.{all_below, below, All, each_append, each_left, each_right, each_all, all-each, part_step, part_end, by-test}
-use Rattle.put.proofs.Wrote.{part-add}
+use Rattle.rules.proofs.Tools.{all_below, below, All, each_append, each_left, each_right, each_all, all_each, part_step, part_end, by_test}
+use Rattle.put.proofs.Wrote.{part_add}
 use Rattle.uri_escape.specs.Escape.{bit_of, names, entry}
 
 agree : (a b : Bool) → beq a b ≡ true → a ≡ b
@@ -40,11 +40,11 @@ place_of Parameter = 2
 place_of Fragment = 3
 
 -- the bit of a class, out of a number
-at-bit : (k : Class) (e : ℕ) → bit_and e (bit_of k) ≡ (e / 2 ^ place_of k % 2 ^ 1) * 2 ^ place_of k
-at-bit Label e = and_high e 1 0
-at-bit Segment e = and_high e 1 1
-at-bit Parameter e = and_high e 1 2
-at-bit Fragment e = and_high e 1 3
+at_bit : (k : Class) (e : ℕ) → bit_and e (bit_of k) ≡ (e / 2 ^ place_of k % 2 ^ 1) * 2 ^ place_of k
+at_bit Label e = and_high e 1 0
+at_bit Segment e = and_high e 1 1
+at_bit Parameter e = and_high e 1 2
+at_bit Fragment e = and_high e 1 3
 
 -- ---- what entries have in common
 
@@ -63,11 +63,11 @@ weights Segment = refl
 weights Parameter = refl
 weights Fragment = refl
 
-pub names-and : (k : Class) (a b : ℕ) → names (bit_and a b) k ≡ (names a k && names b k)
+pub names_and : (k : Class) (a b : ℕ) → names (bit_and a b) k ≡ (names a k && names b k)
 unfolding names
-names-and k a b =
+names_and k a b =
     let p : ℕ = 2 ^ place_of k in
-    rw (at-bit k (bit_and a b), at-bit k a, at-bit k b, and_shr a b (place_of k), and_mod (a / p) (b / p) 1)
+    rw (at_bit k (bit_and a b), at_bit k a, at_bit k b, and_shr a b (place_of k), and_mod (a / p) (b / p) 1)
     (both p (weights k) (a / p % 2 ^ 1) (b / p % 2 ^ 1) (omega arith) (omega arith))
 
 -- 15 names all classes
@@ -80,18 +80,18 @@ all_named Fragment = refl
 
 -- the walk over the bytes of s from i up to `end`: e is common to those that are passed
 module _ (k : Class) (s : Bytes) (i end e : ℕ) {r : Bool} where
-  pub common-next : i < end → end ≤ length s → get_or s i 0 < 256 → (names e k && all (bare k) (part s i (end - i))) ≡ r
+  pub common_next : i < end → end ≤ length s → get_or s i 0 < 256 → (names e k && all (bare k) (part s i (end - i))) ≡ r
       → (names (bit_and e (entry (get_or s i 0))) k && all (bare k) (part s (i + 1) (end - (i + 1)))) ≡ r
   unfolding all
-  common-next h g f c = rw (names-and k e (entry (get_or s i 0)), named k (get_or s i 0) f) (and_assoc (names e k) (bare k (get_or s i 0)) _ ∙ rw (part_step s i end h g) at c)
+  common_next h g f c = rw (names_and k e (entry (get_or s i 0)), named k (get_or s i 0) f) (and_assoc (names e k) (bare k (get_or s i 0)) _ ∙ rw (part_step s i end h g) at c)
     where
       and_assoc : (x y z : Bool) → ((x && y) && z) ≡ (x && (y && z))
       and_assoc true y z = refl
       and_assoc false y z = refl
 
-  pub common-last : end ≤ i → (names e k && all (bare k) (part s i (end - i))) ≡ r → names e k ≡ r
+  pub common_last : end ≤ i → (names e k && all (bare k) (part s i (end - i))) ≡ r → names e k ≡ r
   unfolding all
-  common-last h c = and-true (names e k) ∙ rw (part_end s i end h) at c
+  common_last h c = and-true (names e k) ∙ rw (part_end s i end h) at c
     where
       and-true : (x : Bool) → x ≡ (x && true)
       and-true true = refl
@@ -103,22 +103,22 @@ module _ (p : ℕ → Bool) (s : Bytes) where
   -- what holds of a part holds of its first j bytes and of the m after them
   parts : (from j m : ℕ) → All p (part s from (j + m)) → All p (part s from j) × All p (part s (from + j) m)
   parts from j m h =
-      let e = rw (part-add s from j m) at h in
+      let e = rw (part_add s from j m) at h in
       (each_left (λ (c : ℕ). p c ≡ true) (part s from j) (part s (from + j) m) e, each_right (λ (c : ℕ). p c ≡ true) (part s from j) (part s (from + j) m) e)
 
   -- the first j bytes and the m after them, where the first k hold and k is not less than j
-  pub all-next : (from j k m : ℕ) → j ≤ k → all p (part s from k) ≡ true → all p (part s (from + j) m) ≡ true → all p (part s from (j + m)) ≡ true
-  all-next from j k m h e f =
+  pub all_next : (from j k m : ℕ) → j ≤ k → all p (part s from k) ≡ true → all p (part s (from + j) m) ≡ true → all p (part s from (j + m)) ≡ true
+  all_next from j k m h e f =
       let whole : k ≡ j + (k - j) = omega arith in
       let first = (parts from j (k - j) (rw whole at (each_all p (part s from k) e))).0 in
-      all-each p (part s from (j + m)) (rw (part-add s from j m) (each_append (λ (c : ℕ). p c ≡ true) (part s from j) (part s (from + j) m) first (each_all p (part s (from + j) m) f)))
+      all_each p (part s from (j + m)) (rw (part_add s from j m) (each_append (λ (c : ℕ). p c ≡ true) (part s from j) (part s (from + j) m) first (each_all p (part s (from + j) m) f)))
 
   -- m bytes inside of n
   inside : (from j m n : ℕ) → j + m ≤ n → all p (part s from n) ≡ true → all p (part s (from + j) m) ≡ true
   inside from j m n h e =
       let whole : n ≡ j + (m + (n - (j + m))) = omega arith in
       let rest = (parts from j (m + (n - (j + m))) (rw whole at (each_all p (part s from n) e))).1 in
-      all-each p (part s (from + j) m) (parts (from + j) m (n - (j + m)) rest).0
+      all_each p (part s (from + j) m) (parts (from + j) m (n - (j + m)) rest).0
 
-  pub all-not : (from j m n : ℕ) → j + m ≤ n → all p (part s (from + j) m) ≡ false → all p (part s from n) ≡ false
-  all-not from j m n h e = by-test (λ t. t ≡ false) (all p (part s from n)) (λ t. sym (inside from j m n h t) ∙ e) (λ t. refl)
+  pub all_not : (from j m n : ℕ) → j + m ≤ n → all p (part s (from + j) m) ≡ false → all p (part s from n) ≡ false
+  all_not from j m n h e = by_test (λ t. t ≡ false) (all p (part s from n)) (λ t. sym (inside from j m n h t) ∙ e) (λ t. refl)

@@ -8,11 +8,11 @@ use Rattle.uri_escape.specs.declared.Class.{Class}
 use Rattle.uri_escape.specs.declared.Class.TheVariants.{Label, Segment, Parameter, Fragment}
 
 -- a class, as the definitions have it
-abbrev pub classIs : Class → T.Class
-classIs Label = T.Label
-classIs Segment = T.Segment
-classIs Parameter = T.Parameter
-classIs Fragment = T.Fragment
+abbrev pub class_is : Class → T.Class
+class_is Label = T.Label
+class_is Segment = T.Segment
+class_is Parameter = T.Parameter
+class_is Fragment = T.Fragment
 
 -- the bit of a class
 abbrev pub bit_of : T.Class → ℕ

@@ -1,10 +1,10 @@
 // Texts written into a lent room with what may not stand bare as "%" and two hex digits, and how long they are then.
 ghost use Rattle.std.specs.Prelude.{◌+◌, ◌*◌, ◌≤◌, ◌<◌, ◌^◌, ◌≡◌, ◌⊎◌, length};
 ghost use Rattle.rules.specs.Bytes.{part, all};
-ghost use Rattle.rules.specs.Text.{bare, hexDigit, escapeByte, escape};
+ghost use Rattle.rules.specs.Text.{bare, hex_digit, escape_byte, escape};
 ghost use Rattle.put.specs.Wrote.{Wrote};
 ghost use Rattle.put.specs.Tables.{Digits};
-ghost use Rattle.uri_escape.specs.Escape.{classIs, bit_of, names, entry, Table, Common};
+ghost use Rattle.uri_escape.specs.Escape.{class_is, bit_of, names, entry, Table, Common};
 
 use put::put_part;
 
@@ -48,7 +48,7 @@ pub fn bare_table() -> [u8; 256]
 
 // The bit of a class in an entry.
 fn bit(class: Class) -> u8
-    ensures { result ≡ bit_of (classIs class) }
+    ensures { result ≡ bit_of (class_is class) }
 {
     match class {
         Class::Label => 1,
@@ -60,7 +60,7 @@ fn bit(class: Class) -> u8
 
 // Whether an entry names a class.
 fn is_named(e: u8, class: Class) -> bool
-    ensures { result ≡ names e (classIs class) }
+    ensures { result ≡ names e (class_is class) }
 {
     e & bit(class) != 0
 }
@@ -76,7 +76,7 @@ fn entry_of(table: &[u8; 256], b: u8) -> u8
 // Whether a byte stands bare.
 fn is_bare(class: Class, table: &[u8; 256], b: u8) -> bool
     requires { Table table.now }
-    ensures { result ≡ bare (classIs class) b }
+    ensures { result ≡ bare (class_is class) b }
 {
     is_named(entry_of(table, b), class)
 }
@@ -85,7 +85,7 @@ fn is_bare(class: Class, table: &[u8; 256], b: u8) -> bool
 
 // The upper-case hex digits, made once and lent.
 pub fn upper_hex_digits() -> [u8; 16]
-    ensures { Digits hexDigit result }
+    ensures { Digits hex_digit result }
 {
     *b"0123456789ABCDEF"
 }
@@ -99,9 +99,9 @@ fn put_escaped_byte(
     digits: &[u8; 16],
     b: u8,
 ) -> usize
-    requires table { Table table.now × Digits hexDigit digits.now }
-    requires b_in_bounds { at + length (escapeByte (classIs class) b) ≤ length room.old }
-    ensures { Wrote room.old at (escapeByte (classIs class) b) room.new result }
+    requires table { Table table.now × Digits hex_digit digits.now }
+    requires b_in_bounds { at + length (escape_byte (class_is class) b) ≤ length room.old }
+    ensures { Wrote room.old at (escape_byte (class_is class) b) room.new result }
 {
     if is_bare(class, table, b) {
         room[at] = b;
@@ -118,7 +118,7 @@ fn put_escaped_byte(
 // How long one byte is, bare or escaped.
 fn escaped_byte_length(class: Class, table: &[u8; 256], b: u8) -> usize
     requires { Table table.now }
-    ensures { result ≡ length (escapeByte (classIs class) b) }
+    ensures { result ≡ length (escape_byte (class_is class) b) }
 {
     if is_bare(class, table, b) { 1 } else { 3 }
 }
@@ -127,7 +127,7 @@ fn escaped_byte_length(class: Class, table: &[u8; 256], b: u8) -> usize
 fn length_by_bytes(src: &[u8], from: usize, n: usize, class: Class, table: &[u8; 256]) -> usize
     requires table { Table table.now }
     requires n_in_bounds { (from + n ≤ length src.now) × (3 * n < 2 ^ 64) }
-    ensures { result ≡ length (escape (classIs class) (part src.now from n)) }
+    ensures { result ≡ length (escape (class_is class) (part src.now from n)) }
 {
     let end = from + n;
     let mut total = 0;
@@ -150,10 +150,10 @@ fn put_by_bytes(
     table: &[u8; 256],
     digits: &[u8; 16],
 ) -> usize
-    requires table { Table table.now × Digits hexDigit digits.now }
+    requires table { Table table.now × Digits hex_digit digits.now }
     requires n_in_bounds { from + n ≤ length src.now }
-    requires n_in_bounds_2 { at + length (escape (classIs class) (part src.now from n)) ≤ length room.old }
-    ensures { Wrote room.old at (escape (classIs class) (part src.now from n)) room.new result }
+    requires n_in_bounds_2 { at + length (escape (class_is class) (part src.now from n)) ≤ length room.old }
+    ensures { Wrote room.old at (escape (class_is class) (part src.now from n)) room.new result }
 {
     let end = from + n;
     let mut i = from;
@@ -194,7 +194,7 @@ fn common_of_eight(src: &[u8], at: usize, table: &[u8; 256]) -> u8
 fn stand_bare(src: &[u8], from: usize, n: usize, class: Class, table: &[u8; 256]) -> bool
     requires table { Table table.now }
     requires le_n { (8 ≤ n) × (from + n ≤ length src.now) }
-    ensures { result ≡ all (bare (classIs class)) (part src.now from n) }
+    ensures { result ≡ all (bare (class_is class)) (part src.now from n) }
 {
     let last = n - 8;
     let mut k = 0;
@@ -213,7 +213,7 @@ fn stand_bare(src: &[u8], from: usize, n: usize, class: Class, table: &[u8; 256]
 pub fn long_length(src: &[u8], from: usize, n: usize, class: Class, table: &[u8; 256]) -> usize
     requires table { Table table.now }
     requires n_in_bounds { (from + n ≤ length src.now) × (3 * n < 2 ^ 64) }
-    ensures { result ≡ length (escape (classIs class) (part src.now from n)) }
+    ensures { result ≡ length (escape (class_is class) (part src.now from n)) }
 {
     if 8 <= n {
         if stand_bare(src, from, n, class, table) {
@@ -234,10 +234,10 @@ pub fn put_long(
     table: &[u8; 256],
     digits: &[u8; 16],
 ) -> usize
-    requires table { Table table.now × Digits hexDigit digits.now }
+    requires table { Table table.now × Digits hex_digit digits.now }
     requires n_in_bounds { from + n ≤ length src.now }
-    requires n_in_bounds_2 { at + length (escape (classIs class) (part src.now from n)) ≤ length room.old }
-    ensures { Wrote room.old at (escape (classIs class) (part src.now from n)) room.new result }
+    requires n_in_bounds_2 { at + length (escape (class_is class) (part src.now from n)) ≤ length room.old }
+    ensures { Wrote room.old at (escape (class_is class) (part src.now from n)) room.new result }
 {
     if 8 <= n {
         if stand_bare(src, from, n, class, table) {
@@ -256,7 +256,7 @@ const LONG: usize = 16;
 pub fn escaped_length(src: &[u8], from: usize, n: usize, class: Class, table: &[u8; 256]) -> usize
     requires table { Table table.now }
     requires n_in_bounds { (from + n ≤ length src.now) × (3 * n < 2 ^ 64) }
-    ensures { result ≡ length (escape (classIs class) (part src.now from n)) }
+    ensures { result ≡ length (escape (class_is class) (part src.now from n)) }
 {
     if n < LONG {
         return length_by_bytes(src, from, n, class, table);
@@ -275,10 +275,10 @@ pub fn put_escaped(
     table: &[u8; 256],
     digits: &[u8; 16],
 ) -> usize
-    requires table { Table table.now × Digits hexDigit digits.now }
+    requires table { Table table.now × Digits hex_digit digits.now }
     requires n_in_bounds { from + n ≤ length src.now }
-    requires n_in_bounds_2 { at + length (escape (classIs class) (part src.now from n)) ≤ length room.old }
-    ensures { Wrote room.old at (escape (classIs class) (part src.now from n)) room.new result }
+    requires n_in_bounds_2 { at + length (escape (class_is class) (part src.now from n)) ≤ length room.old }
+    ensures { Wrote room.old at (escape (class_is class) (part src.now from n)) room.new result }
 {
     if n < LONG {
         return put_by_bytes(room, at, src, from, n, class, table, digits);

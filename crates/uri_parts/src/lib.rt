@@ -2,13 +2,13 @@
 ghost use Rattle.std.specs.Prelude.{◌+◌, ◌≤◌, ◌≡◌, length};
 ghost use Rattle.rules.specs.Bytes.{Bytes};
 ghost use Rattle.rules.specs.Model.{limits};
-ghost use Rattle.rules.specs.Meaning.{saidTexts, saidText, saidHost, saidScheme};
+ghost use Rattle.rules.specs.Meaning.{said_texts, said_text, said_host, said_scheme};
 ghost use Rattle.rules.specs.Valid.{GoodPort};
 ghost use Rattle.rules.specs.Standing.{SchemeStands, TextStands};
 ghost use Rattle.put.specs.Wrote.{Wrote};
 ghost use Rattle.uri_escape.specs.Escape.{Table};
-ghost use Rattle.reader.specs.Answers.{slot_of, hostOf, portOf, schemeOf};
-ghost use Rattle.uri_parts.specs.Pieces.{schemePiece, hostPiece, portPiece, pathPiece, queryPiece, fragmentPiece, HostPrints, TextsPrint, Short};
+ghost use Rattle.reader.specs.Answers.{slot_of, host_of, port_of, scheme_of};
+ghost use Rattle.uri_parts.specs.Pieces.{scheme_piece, host_piece, port_piece, path_piece, query_piece, fragment_piece, HostPrints, TextsPrint, Short};
 
 use addresses::{address_length, put_address};
 use numeral::{decimal_length, put_decimal};
@@ -22,7 +22,7 @@ use uri_rows::{put_row, row_length};
 
 // How long a scheme is, by its number or as its text.
 pub fn scheme_length(scheme: SchemeAt) -> usize
-    ensures { (bs : Bytes) → SchemeStands bs (schemeOf scheme) → result ≡ length (schemePiece (saidScheme bs (schemeOf scheme))) }
+    ensures { (bs : Bytes) → SchemeStands bs (scheme_of scheme) → result ≡ length (scheme_piece (said_scheme bs (scheme_of scheme))) }
 {
     match scheme {
         SchemeAt::Unset => 0,
@@ -33,9 +33,9 @@ pub fn scheme_length(scheme: SchemeAt) -> usize
 
 // A scheme: the name of its number, or its text.
 pub fn put_scheme(room: &mut [u8], at: usize, s: &[u8], scheme: SchemeAt) -> usize
-    requires scheme_stands { SchemeStands s.now (schemeOf scheme) }
-    requires scheme_in_bounds { at + length (schemePiece (saidScheme s.now (schemeOf scheme))) ≤ length room.old }
-    ensures { Wrote room.old at (schemePiece (saidScheme s.now (schemeOf scheme))) room.new result }
+    requires scheme_stands { SchemeStands s.now (scheme_of scheme) }
+    requires scheme_in_bounds { at + length (scheme_piece (said_scheme s.now (scheme_of scheme))) ≤ length room.old }
+    ensures { Wrote room.old at (scheme_piece (said_scheme s.now (scheme_of scheme))) room.new result }
 {
     match scheme {
         SchemeAt::Unset => at,
@@ -53,9 +53,9 @@ pub fn put_scheme(room: &mut [u8], at: usize, s: &[u8], scheme: SchemeAt) -> usi
 pub fn host_length(s: &[u8], host: HostAt, table: &[u8; 256]) -> usize
     requires table { Table table.now }
     requires s_len_bound { length s.now ≤ limits.bytes }
-    requires host_prints { HostPrints s.now (hostOf host) }
-    requires short { Short (hostPiece (saidHost s.now (hostOf host))) }
-    ensures { result ≡ length (hostPiece (saidHost s.now (hostOf host))) }
+    requires host_prints { HostPrints s.now (host_of host) }
+    requires short { Short (host_piece (said_host s.now (host_of host))) }
+    ensures { result ≡ length (host_piece (said_host s.now (host_of host))) }
 {
     match host {
         HostAt::Address {
@@ -69,9 +69,9 @@ pub fn host_length(s: &[u8], host: HostAt, table: &[u8; 256]) -> usize
 // A "/" and a host: an address, or labels joined by ".".
 pub fn put_host(room: &mut [u8], at: usize, s: &[u8], host: HostAt, table: &[u8; 256]) -> usize
     requires table { Table table.now }
-    requires host_prints { HostPrints s.now (hostOf host) }
-    requires host_in_bounds { at + length (hostPiece (saidHost s.now (hostOf host))) ≤ length room.old }
-    ensures { Wrote room.old at (hostPiece (saidHost s.now (hostOf host))) room.new result }
+    requires host_prints { HostPrints s.now (host_of host) }
+    requires host_in_bounds { at + length (host_piece (said_host s.now (host_of host))) ≤ length room.old }
+    ensures { Wrote room.old at (host_piece (said_host s.now (host_of host))) room.new result }
 {
     match host {
         HostAt::Address {
@@ -97,9 +97,9 @@ pub fn put_host(room: &mut [u8], at: usize, s: &[u8], host: HostAt, table: &[u8;
 
 // How long a ":" and a port are, if there is one.
 pub fn port_length(port: Port) -> usize
-    requires good_port { GoodPort (portOf port) }
-    requires short { Short (portPiece (portOf port)) }
-    ensures { result ≡ length (portPiece (portOf port)) }
+    requires good_port { GoodPort (port_of port) }
+    requires short { Short (port_piece (port_of port)) }
+    ensures { result ≡ length (port_piece (port_of port)) }
 {
     match port {
         Port::Unset => 0,
@@ -109,9 +109,9 @@ pub fn port_length(port: Port) -> usize
 
 // A ":" and a port in decimal, if there is one.
 pub fn put_port(room: &mut [u8], at: usize, port: Port) -> usize
-    requires good_port { GoodPort (portOf port) }
-    requires port_in_bounds { at + length (portPiece (portOf port)) ≤ length room.old }
-    ensures { Wrote room.old at (portPiece (portOf port)) room.new result }
+    requires good_port { GoodPort (port_of port) }
+    requires port_in_bounds { at + length (port_piece (port_of port)) ≤ length room.old }
+    ensures { Wrote room.old at (port_piece (port_of port)) room.new result }
 {
     match port {
         Port::Unset => at,
@@ -129,7 +129,7 @@ pub fn path_length(s: &[u8], path: Slot, table: &[u8; 256]) -> usize
     requires table { Table table.now }
     requires s_len_bound { length s.now ≤ limits.bytes }
     requires texts_print { TextsPrint s.now (slot_of path) }
-    ensures { result ≡ length (pathPiece (saidTexts s.now (slot_of path))) }
+    ensures { result ≡ length (path_piece (said_texts s.now (slot_of path))) }
 {
     match path {
         Slot::Unset => 1,
@@ -141,8 +141,8 @@ pub fn path_length(s: &[u8], path: Slot, table: &[u8; 256]) -> usize
 pub fn put_path(room: &mut [u8], at: usize, s: &[u8], path: Slot, table: &[u8; 256]) -> usize
     requires table { Table table.now }
     requires texts_print { TextsPrint s.now (slot_of path) }
-    requires path_in_bounds { at + length (pathPiece (saidTexts s.now (slot_of path))) ≤ length room.old }
-    ensures { Wrote room.old at (pathPiece (saidTexts s.now (slot_of path))) room.new result }
+    requires path_in_bounds { at + length (path_piece (said_texts s.now (slot_of path))) ≤ length room.old }
+    ensures { Wrote room.old at (path_piece (said_texts s.now (slot_of path))) room.new result }
 {
     match path {
         Slot::Unset => put_byte(room, at, b'/'),
@@ -165,7 +165,7 @@ pub fn query_length(s: &[u8], query: Slot, table: &[u8; 256]) -> usize
     requires table { Table table.now }
     requires s_len_bound { length s.now ≤ limits.bytes }
     requires texts_print { TextsPrint s.now (slot_of query) }
-    ensures { result ≡ length (queryPiece (saidTexts s.now (slot_of query))) }
+    ensures { result ≡ length (query_piece (said_texts s.now (slot_of query))) }
 {
     match query {
         Slot::Unset => 0,
@@ -177,8 +177,8 @@ pub fn query_length(s: &[u8], query: Slot, table: &[u8; 256]) -> usize
 pub fn put_query(room: &mut [u8], at: usize, s: &[u8], query: Slot, table: &[u8; 256]) -> usize
     requires table { Table table.now }
     requires texts_print { TextsPrint s.now (slot_of query) }
-    requires query_in_bounds { at + length (queryPiece (saidTexts s.now (slot_of query))) ≤ length room.old }
-    ensures { Wrote room.old at (queryPiece (saidTexts s.now (slot_of query))) room.new result }
+    requires query_in_bounds { at + length (query_piece (said_texts s.now (slot_of query))) ≤ length room.old }
+    ensures { Wrote room.old at (query_piece (said_texts s.now (slot_of query))) room.new result }
 {
     match query {
         Slot::Unset => at,
@@ -201,8 +201,8 @@ pub fn fragment_length(s: &[u8], fragment: Slot, table: &[u8; 256]) -> usize
     requires table { Table table.now }
     requires s_len_bound { length s.now ≤ limits.bytes }
     requires text_stands { TextStands s.now (slot_of fragment) }
-    requires short { Short (fragmentPiece (saidText s.now (slot_of fragment))) }
-    ensures { result ≡ length (fragmentPiece (saidText s.now (slot_of fragment))) }
+    requires short { Short (fragment_piece (said_text s.now (slot_of fragment))) }
+    ensures { result ≡ length (fragment_piece (said_text s.now (slot_of fragment))) }
 {
     match fragment {
         Slot::Unset => 0,
@@ -220,8 +220,8 @@ pub fn put_fragment(
 ) -> usize
     requires table { Table table.now }
     requires text_stands { TextStands s.now (slot_of fragment) }
-    requires fragment_in_bounds { at + length (fragmentPiece (saidText s.now (slot_of fragment))) ≤ length room.old }
-    ensures { Wrote room.old at (fragmentPiece (saidText s.now (slot_of fragment))) room.new result }
+    requires fragment_in_bounds { at + length (fragment_piece (said_text s.now (slot_of fragment))) ≤ length room.old }
+    ensures { Wrote room.old at (fragment_piece (said_text s.now (slot_of fragment))) room.new result }
 {
     match fragment {
         Slot::Unset => at,

@@ -8,22 +8,22 @@ use Rattle.rules.specs.Text.{Class, escape}
 use Rattle.rules.proofs.RowWalk.{First}
 use Rattle.put.proofs.Wrote.{Left, Next, Count, CountNext}
 use Rattle.put.proofs.RowTurns as Rows
-use Rattle.uri_rows.specs.Marked.{markedEach}
+use Rattle.uri_rows.specs.Marked.{marked_each}
 
 module _ (k : Class) {bs : Bytes} {next left start n : ℕ} (f : First bs next left start n) (mark d : ℕ) where
-  each : (t : Bytes) (ts : List Bytes) → markedEach k mark d (t ∷ ts) ≡ (mark ∷ escape k t) ++ markedEach k d d ts
-  unfolding markedEach
+  each : (t : Bytes) (ts : List Bytes) → marked_each k mark d (t ∷ ts) ≡ (mark ∷ escape k t) ++ marked_each k d d ts
+  unfolding marked_each
   each t ts = refl
 
-  pub turn-next : {room room₀ w₀ : Bytes} {o at : ℕ} → Left room o (markedEach k mark d (contents bs next left)) room₀ at w₀
-      → Next room o (mark ∷ escape k (part bs start n)) (markedEach k d d (contents bs (start + n) (left - 1))) room₀ at w₀
-  turn-next l = Rows.turn-next (markedEach k mark d) (markedEach k d d) (λ t. mark ∷ escape k t) each f l
+  pub turn_next : {room room₀ w₀ : Bytes} {o at : ℕ} → Left room o (marked_each k mark d (contents bs next left)) room₀ at w₀
+      → Next room o (mark ∷ escape k (part bs start n)) (marked_each k d d (contents bs (start + n) (left - 1))) room₀ at w₀
+  turn_next l = Rows.turn_next (marked_each k mark d) (marked_each k d d) (λ t. mark ∷ escape k t) each f l
 
-  pub turn-count : {p m : ℕ} → Count p (markedEach k mark d (contents bs next left)) m
-      → CountNext p (mark ∷ escape k (part bs start n)) (markedEach k d d (contents bs (start + n) (left - 1))) m
-  turn-count c = Rows.turn-count (markedEach k mark d) (markedEach k d d) (λ t. mark ∷ escape k t) each f c
+  pub turn_count : {p m : ℕ} → Count p (marked_each k mark d (contents bs next left)) m
+      → CountNext p (mark ∷ escape k (part bs start n)) (marked_each k d d (contents bs (start + n) (left - 1))) m
+  turn_count c = Rows.turn_count (marked_each k mark d) (marked_each k d d) (λ t. mark ∷ escape k t) each f c
 
 -- nothing is left of none
-pub none-marked : (k : Class) (mark d : ℕ) (bs : Bytes) (next left : ℕ) → left ≤ 0 → markedEach k mark d (contents bs next left) ≡ []
-unfolding markedEach
-none-marked k mark d bs next left h = Rows.none_of (markedEach k mark d) refl bs next left h
+pub none_marked : (k : Class) (mark d : ℕ) (bs : Bytes) (next left : ℕ) → left ≤ 0 → marked_each k mark d (contents bs next left) ≡ []
+unfolding marked_each
+none_marked k mark d bs next left h = Rows.none_of (marked_each k mark d) refl bs next left h

@@ -4,6 +4,6 @@ use Rattle.rules.specs.Bytes.{Bytes}
 use Rattle.rules.specs.Text.{Class, escape}
 
 -- the first after one mark, each further one after another
-unfoldable pub markedEach : Class → ℕ → ℕ → List Bytes → Bytes
-markedEach k first further [] = []
-markedEach k first further (t ∷ ts) = first ∷ (escape k t ++ markedEach k further further ts)
+unfoldable pub marked_each : Class → ℕ → ℕ → List Bytes → Bytes
+marked_each k first further [] = []
+marked_each k first further (t ∷ ts) = first ∷ (escape k t ++ marked_each k further further ts)

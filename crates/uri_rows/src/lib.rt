@@ -6,8 +6,8 @@ ghost use Rattle.rules.specs.Reader.{contents};
 ghost use Rattle.rules.specs.Text.{escape};
 ghost use Rattle.rules.specs.Standing.{RowAt};
 ghost use Rattle.put.specs.Wrote.{Wrote};
-ghost use Rattle.uri_escape.specs.Escape.{classIs, Table};
-ghost use Rattle.uri_rows.specs.Marked.{markedEach};
+ghost use Rattle.uri_escape.specs.Escape.{class_is, Table};
+ghost use Rattle.uri_rows.specs.Marked.{marked_each};
 
 use cbor::span_at;
 use put::put_byte;
@@ -18,7 +18,7 @@ fn marked_length(s: &[u8], at: usize, count: usize, class: Class, table: &[u8; 2
     requires table { Table table.now }
     requires row_at { RowAt s.now at count }
     requires s_len_bound { length s.now ≤ limits.bytes }
-    ensures { (first further : ℕ) → result ≡ length (markedEach (classIs class) first further (contents s.now at count)) }
+    ensures { (first further : ℕ) → result ≡ length (marked_each (class_is class) first further (contents s.now at count)) }
 {
     let mut next = at;
     let mut left = count;
@@ -46,8 +46,8 @@ fn put_marked(
 ) -> usize
     requires table { Table table.now }
     requires row_at { RowAt s.now from count }
-    requires count_in_bounds { at + length (markedEach (classIs class) first further (contents s.now from count)) ≤ length room.old }
-    ensures { Wrote room.old at (markedEach (classIs class) first further (contents s.now from count)) room.new result }
+    requires count_in_bounds { at + length (marked_each (class_is class) first further (contents s.now from count)) ≤ length room.old }
+    ensures { Wrote room.old at (marked_each (class_is class) first further (contents s.now from count)) room.new result }
 {
     let digits = upper_hex_digits();
     let mut next = from;
@@ -70,7 +70,7 @@ pub fn row_length(s: &[u8], at: usize, count: usize, class: Class, table: &[u8; 
     requires table { Table table.now }
     requires row_at { RowAt s.now at count }
     requires s_len_bound { length s.now ≤ limits.bytes }
-    ensures { (mark delimiter : ℕ) → result ≡ length (mark ∷ join delimiter (map (escape (classIs class)) (contents s.now at count))) }
+    ensures { (mark delimiter : ℕ) → result ≡ length (mark ∷ join delimiter (map (escape (class_is class)) (contents s.now at count))) }
 {
     if count == 0 {
         return 1;
@@ -92,8 +92,8 @@ pub fn put_row(
 ) -> usize
     requires table { Table table.now }
     requires row_at { RowAt s.now from count }
-    requires count_in_bounds { at + length (mark ∷ join delimiter (map (escape (classIs class)) (contents s.now from count))) ≤ length room.old }
-    ensures { Wrote room.old at (mark ∷ join delimiter (map (escape (classIs class)) (contents s.now from count))) room.new result }
+    requires count_in_bounds { at + length (mark ∷ join delimiter (map (escape (class_is class)) (contents s.now from count))) ≤ length room.old }
+    ensures { Wrote room.old at (mark ∷ join delimiter (map (escape (class_is class)) (contents s.now from count))) room.new result }
 {
     if count == 0 {
         return put_byte(room, at, mark);

@@ -1,8 +1,8 @@
 // UTF-8 (RFC 3629): whether a part of a slice is UTF-8.
 ghost use Rattle.std.specs.Prelude.{◌≡◌, cond, ◌+◌, ◌≤◌, ◌<◌, length, ltb};
 ghost use Rattle.rules.specs.Bytes.{part, within, all};
-ghost use Rattle.rules.specs.Utf8.{leadOf, utf8};
-ghost use Rattle.utf8.specs.Answers.{leadIs, secondLow, secondHigh, isAscii, Passed, Stopped, Followed, Character};
+ghost use Rattle.rules.specs.Utf8.{lead_of, utf8};
+ghost use Rattle.utf8.specs.Answers.{lead_is, second_low, second_high, is_ascii, Passed, Stopped, Followed, Character};
 
 // What a lead byte asks for: how many bytes follow, and from where to where the second byte may be.
 #[derive(Drop)]
@@ -13,7 +13,7 @@ pub enum Lead {
 
 // The least second byte: none that would make a form longer than needed.
 fn second_low(b: u8) -> u8
-    ensures { result ≡ secondLow b }
+    ensures { result ≡ second_low b }
 {
     match b {
         0xe0 => 0xa0,
@@ -24,7 +24,7 @@ fn second_low(b: u8) -> u8
 
 // The largest second byte: no surrogate, and nothing above U+10FFFF.
 fn second_high(b: u8) -> u8
-    ensures { result ≡ secondHigh b }
+    ensures { result ≡ second_high b }
 {
     match b {
         0xed => 0x9f,
@@ -35,7 +35,7 @@ fn second_high(b: u8) -> u8
 
 // What a lead byte asks for (RFC 3629, section 4).
 fn lead_of(b: u8) -> Lead
-    ensures { leadIs result ≡ leadOf b }
+    ensures { lead_is result ≡ lead_of b }
 {
     match b {
         0..=0x7f => Lead::Follow(0, 0x80, 0xbf),
@@ -55,7 +55,7 @@ fn larger(a: u8, b: u8) -> u8
 // Whether the n bytes from a position on are ASCII. It has no early exit, so that it becomes vector code.
 fn ascii(s: &[u8], from: usize, n: usize) -> bool
     requires { from + n ≤ length s.now }
-    ensures { result ≡ all isAscii (part s.now from n) }
+    ensures { result ≡ all is_ascii (part s.now from n) }
 {
     let mut most: u8 = 0;
     let mut k: usize = 0;

@@ -1,7 +1,7 @@
 // The words of a request: bytes in lower-case hex, and decimal numbers.
 ghost use Rattle.std.specs.Prelude.{◌≡◌, true, ◌≤◌, length};
 ghost use Rattle.put.specs.Wrote.{Wrote};
-ghost use Rattle.words.specs.Words.{value_of, areDigits, someDigits, decimalFrom, ifFits, number_of, pairBytes, isDash, ifHeld, hexOf, roomAfter};
+ghost use Rattle.words.specs.Words.{value_of, are_digits, some_digits, decimal_from, if_fits, number_of, pair_bytes, is_dash, if_held, hex_of, room_after};
 
 // What a decimal word says.
 #[derive(Drop)]
@@ -52,7 +52,7 @@ pub fn value_of(c: u8) -> u8
 
 // Whether each byte is a digit of this base, at most 16.
 fn are_digits(word: &[u8], base: u8) -> bool
-    ensures { result ≡ areDigits base word.now }
+    ensures { result ≡ are_digits base word.now }
 {
     let mut i = 0;
     while i < word.len() {
@@ -66,7 +66,7 @@ fn are_digits(word: &[u8], base: u8) -> bool
 
 // Whether the word has one or more digits of this base and nothing else.
 fn some_digits(word: &[u8], base: u8) -> bool
-    ensures { result ≡ someDigits base word.now }
+    ensures { result ≡ some_digits base word.now }
 {
     if 0 < word.len() {
         return are_digits(word, base);
@@ -76,7 +76,7 @@ fn some_digits(word: &[u8], base: u8) -> bool
 
 // The number of these decimal digits.
 fn digits_number(word: &[u8]) -> Number
-    ensures { result ≡ ifFits (decimalFrom 0 word.now) }
+    ensures { result ≡ if_fits (decimal_from 0 word.now) }
 {
     let mut v: u64 = 0;
     let mut i = 0;
@@ -104,8 +104,8 @@ pub fn decimal(word: &[u8]) -> Number
 
 // The bytes that pairs of hex digits say, at the start of the room.
 fn put_pairs(room: &mut [u8], word: &[u8]) -> usize
-    requires { (areDigits 16 word.now ≡ true) × (length (pairBytes word.now) ≤ length room.old) }
-    ensures { Wrote room.old 0 (pairBytes word.now) room.new result }
+    requires { (are_digits 16 word.now ≡ true) × (length (pair_bytes word.now) ≤ length room.old) }
+    ensures { Wrote room.old 0 (pair_bytes word.now) room.new result }
 {
     let n = word.len() / 2;
     let mut i = 0;
@@ -118,7 +118,7 @@ fn put_pairs(room: &mut [u8], word: &[u8]) -> usize
 
 // Whether the word is "-".
 fn is_dash(word: &[u8]) -> bool
-    ensures { result ≡ isDash word.now }
+    ensures { result ≡ is_dash word.now }
 {
     if word.len() == 1 {
         return word[0] == b'-';
@@ -128,9 +128,9 @@ fn is_dash(word: &[u8]) -> bool
 
 // The bytes of these hex digits, put at the start of the room.
 fn put_digits(room: &mut [u8], word: &[u8]) -> Hex
-    requires { areDigits 16 word.now ≡ true }
-    ensures value { result ≡ ifHeld (length word.now) (length room.old) }
-    ensures room_after { room.new ≡ roomAfter result word.now room.old }
+    requires { are_digits 16 word.now ≡ true }
+    ensures value { result ≡ if_held (length word.now) (length room.old) }
+    ensures room_after { room.new ≡ room_after result word.now room.old }
 {
     if word.len() % 2 == 1 {
         return Hex::Odd;
@@ -143,8 +143,8 @@ fn put_digits(room: &mut [u8], word: &[u8]) -> Hex
 
 // The bytes that a word of hex says, put at the start of the room; "-" says none.
 pub fn hex_bytes(room: &mut [u8], word: &[u8]) -> Hex
-    ensures value { result ≡ hexOf word.now (length room.old) }
-    ensures room_after { room.new ≡ roomAfter result word.now room.old }
+    ensures value { result ≡ hex_of word.now (length room.old) }
+    ensures room_after { room.new ≡ room_after result word.now room.old }
 {
     if is_dash(word) {
         return Hex::Bytes(0);

@@ -16,17 +16,17 @@ pub added_none : {room : Bytes} {at : ℕ} → Added room at (Unit {0}) [] room 
 added_none = record { place = λ g h. omega arith; bytes = λ g h. refl; good = λ h. tt; fits = λ h. omega arith }
 
 -- what was written
-pub added-wrote : {a b w : Bytes} {Good : Type 0} {i k : ℕ} → Good → Fits i w → Wrote a i w b k → Added a i Good w b k
-added-wrote g h p = record { place = λ _ _. p.place; bytes = λ _ _. p.bytes; good = λ _. g; fits = λ _. h }
+pub added_wrote : {a b w : Bytes} {Good : Type 0} {i k : ℕ} → Good → Fits i w → Wrote a i w b k → Added a i Good w b k
+added_wrote g h p = record { place = λ _ _. p.place; bytes = λ _ _. p.bytes; good = λ _. g; fits = λ _. h }
 
 -- what may not be added
-pub added-over : {room : Bytes} {Good : Type 0} {at : ℕ} (w : Bytes) → (Good → Fits at w → ⊥) → Added room at Good w room (limits.bytes + 1)
-added-over w never =
+pub added_over : {room : Bytes} {Good : Type 0} {at : ℕ} (w : Bytes) → (Good → Fits at w → ⊥) → Added room at Good w room (limits.bytes + 1)
+added_over w never =
     record { place = λ g h. absurd (never g h); bytes = λ g h. absurd (never g h); good = λ h. absurd (omega arith); fits = λ h. absurd (omega arith) }
 
 -- the same, said in another way
-pub added-as : {a b v w : Bytes} {G H : Type 0} {i k : ℕ} → (G → H) → (H → G) → (G → v ≡ w) → Added a i G v b k → Added a i H w b k
-added-as {a} {b} {v} {w} {G} {H} {i} {k} there back e p =
+pub added_as : {a b v w : Bytes} {G H : Type 0} {i k : ℕ} → (G → H) → (H → G) → (G → v ≡ w) → Added a i G v b k → Added a i H w b k
+added_as {a} {b} {v} {w} {G} {H} {i} {k} there back e p =
     let same : H → length v ≡ length w = λ h. ap length (e (back h)) in
     record {
       place = λ h f. p.place (back h) (omega (arith, same h)) ∙ ap (λ (n : ℕ). i + n) (same h);
@@ -36,12 +36,12 @@ added-as {a} {b} {v} {w} {G} {H} {i} {k} there back e p =
     }
 
 -- the same bytes, said in another way
-pub added-bytes : {a b v w : Bytes} {G : Type 0} {i k : ℕ} → v ≡ w → Added a i G v b k → Added a i G w b k
-added-bytes e = added-as (λ g. g) (λ g. g) (λ _. e)
+pub added_bytes : {a b v w : Bytes} {G : Type 0} {i k : ℕ} → v ≡ w → Added a i G v b k → Added a i G w b k
+added_bytes e = added_as (λ g. g) (λ g. g) (λ _. e)
 
 -- the room is as long as before
-pub added-size : {a b w : Bytes} {Good : Type 0} {i k : ℕ} → Added a i Good w b k → k ≤ limits.bytes → length b ≡ length a
-added-size {a} {b} {w} {Good} {i} {k} p h = ap length (p.bytes (p.good h) (p.fits h)) ∙ length-sets a i w
+pub added_size : {a b w : Bytes} {Good : Type 0} {i k : ℕ} → Added a i Good w b k → k ≤ limits.bytes → length b ≡ length a
+added_size {a} {b} {w} {Good} {i} {k} p h = ap length (p.bytes (p.good h) (p.fits h)) ∙ length-sets a i w
 
 -- two pieces
 pub added_then : {a b c v w : Bytes} {G H : Type 0} {i j k : ℕ} → Added a i G v b j → Added b j H w c k → Added a i (G × H) (v ++ w) c k
@@ -65,14 +65,14 @@ added_then {a} {b} {c} {v} {w} {G} {H} {i} {j} {k} p q =
 pub record Rest (room : Bytes) (o : ℕ) (Good : Type 0) (w room₀ : Bytes) (at : ℕ) (Good₀ : Type 0) (w₀ : Bytes) : Type 0 where
   pub all : {after : Bytes} {to : ℕ} → Added room o Good w after to → Added room₀ at Good₀ w₀ after to
 
-pub rest-whole : {room w : Bytes} {Good : Type 0} {at : ℕ} → Rest room at Good w room at Good w
-rest-whole = record { all = λ p. p }
+pub rest_whole : {room w : Bytes} {Good : Type 0} {at : ℕ} → Rest room at Good w room at Good w
+rest_whole = record { all = λ p. p }
 
 -- the next piece is v, and what is left after it is w
-pub rest-next : {room room' v w w₀ room₀ : Bytes} {G H Good₀ : Type 0} {o o' at : ℕ} → Rest room o (G × H) (v ++ w) room₀ at Good₀ w₀ → Added room o G v room' o'
+pub rest_next : {room room' v w w₀ room₀ : Bytes} {G H Good₀ : Type 0} {o o' at : ℕ} → Rest room o (G × H) (v ++ w) room₀ at Good₀ w₀ → Added room o G v room' o'
     → Rest room' o' H w room₀ at Good₀ w₀
-rest-next r p = record { all = λ q. r.all (added_then p q) }
+rest_next r p = record { all = λ q. r.all (added_then p q) }
 
 -- what is left, said in another way
-pub rest-as : {room v w room₀ w₀ : Bytes} {G H Good₀ : Type 0} {o at : ℕ} → (G → H) → (H → G) → v ≡ w → Rest room o G v room₀ at Good₀ w₀ → Rest room o H w room₀ at Good₀ w₀
-rest-as there back e r = record { all = λ q. r.all (added-as back there (λ _. sym e) q) }
+pub rest_as : {room v w room₀ w₀ : Bytes} {G H Good₀ : Type 0} {o at : ℕ} → (G → H) → (H → G) → v ≡ w → Rest room o G v room₀ at Good₀ w₀ → Rest room o H w room₀ at Good₀ w₀
+rest_as there back e r = record { all = λ q. r.all (added_as back there (λ _. sym e) q) }

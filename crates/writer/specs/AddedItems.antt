@@ -2,19 +2,19 @@
 use Rattle.std.specs.Prelude.{ℕ, zero, suc, List, [], ◌∷◌, ◌++◌, map, length}
 use Rattle.std.proofs.Math.Option.{Option, none, some}
 use Rattle.rules.specs.Bytes.{Bytes, concat}
-use Rattle.rules.specs.Head.{Kind, Number, headBytes}
-use Rattle.rules.specs.Model.{Authority, Opening, discard, discardAll, full, Span, Parts, Reference, mapParts, elements}
+use Rattle.rules.specs.Head.{Kind, Number, head_bytes}
+use Rattle.rules.specs.Model.{Authority, Opening, discard, discard_all, full, Span, Parts, Reference, map_parts, elements}
 use Rattle.rules.specs.Reader.{taken}
-use Rattle.rules.specs.Encode.{textItem, nullItem, trueItem, or_null, authorityItem, schemeItem, discardAlone, tailItems}
-use Rattle.rules.specs.Writing.{whereSet, Lie}
+use Rattle.rules.specs.Encode.{text_item, null_item, true_item, or_null, authority_item, scheme_item, discard_alone, tail_items}
+use Rattle.rules.specs.Writing.{where_set, Lie}
 use Rattle.components.specs.declared.Components.{Components}
-use Rattle.components.specs.Content.{componentsOf}
+use Rattle.components.specs.Content.{components_of}
 
 -- ---- when they may be added
 
 -- 9.2: a path, a query and a fragment lie inside the lent bytes
 abbrev pub FurtherMay : Bytes → Option (List Span) → Option (List Span) → Option Span → Type 0
-FurtherMay lent p q f = Lie lent (elements p) × Lie lent (elements q) × Lie lent (whereSet (λ t. t ∷ []) f)
+FurtherMay lent p q f = Lie lent (elements p) × Lie lent (elements q) × Lie lent (where_set (λ t. t ∷ []) f)
 
 -- those of components
 abbrev pub TailMay : Bytes → Parts Span → Type 0
@@ -23,39 +23,39 @@ TailMay lent c = FurtherMay lent c.path c.query c.fragment
 -- ---- items
 
 -- the reference that components and their spans say, with the bytes
-abbrev pub saidBy : Bytes → List ℕ → Components → Reference
-saidBy lent xs c = mapParts (taken lent) (componentsOf xs c)
+abbrev pub said_by : Bytes → List ℕ → Components → Reference
+said_by lent xs c = map_parts (taken lent) (components_of xs c)
 
 -- its items after the opening
-abbrev pub tailOf : Reference → List Bytes
-tailOf r = tailItems r.path r.query r.fragment
+abbrev pub tail_of : Reference → List Bytes
+tail_of r = tail_items r.path r.query r.fragment
 
 -- a text or a byte string
-unfoldable pub stringItem : Kind → Bytes → Bytes
-stringItem k t = headBytes k (length t) ++ t
+unfoldable pub string_item : Kind → Bytes → Bytes
+string_item k t = head_bytes k (length t) ++ t
 
 -- texts, one after the other
-unfoldable pub textItems : Bytes → List Span → Bytes
-textItems lent ts = concat (map textItem (map (taken lent) ts))
+unfoldable pub text_items : Bytes → List Span → Bytes
+text_items lent ts = concat (map text_item (map (taken lent) ts))
 
 -- 9.3: an authority before n further items
-unfoldable pub authorityItems : Option (Authority Bytes) → ℕ → List Bytes
-authorityItems none zero = []
-authorityItems none (suc n) = nullItem ∷ []
-authorityItems (some a) n = authorityItem a ∷ []
+unfoldable pub authority_items : Option (Authority Bytes) → ℕ → List Bytes
+authority_items none zero = []
+authority_items none (suc n) = null_item ∷ []
+authority_items (some a) n = authority_item a ∷ []
 
 -- 1.5: a discard before n further items
-unfoldable pub discardItems : ℕ → ℕ → List Bytes
-discardItems k zero = discardAlone k
-discardItems k (suc n) = headBytes Number k ∷ []
+unfoldable pub discard_items : ℕ → ℕ → List Bytes
+discard_items k zero = discard_alone k
+discard_items k (suc n) = head_bytes Number k ∷ []
 
 -- 1.2, 1.3, 9.3: an opening before n further items
-unfoldable pub openingItems : Opening Bytes → ℕ → List Bytes
-openingItems (discard k) n = discardItems k n
-openingItems discardAll n = trueItem ∷ []
-openingItems (full s a) n = or_null schemeItem s ∷ authorityItems a n
+unfoldable pub opening_items : Opening Bytes → ℕ → List Bytes
+opening_items (discard k) n = discard_items k n
+opening_items discard_all n = true_item ∷ []
+opening_items (full s a) n = or_null scheme_item s ∷ authority_items a n
 
 -- 1.5: a fragment at the end
-unfoldable pub fragmentItems : Option Bytes → List Bytes
-fragmentItems none = []
-fragmentItems (some f) = textItem f ∷ []
+unfoldable pub fragment_items : Option Bytes → List Bytes
+fragment_items none = []
+fragment_items (some f) = text_item f ∷ []

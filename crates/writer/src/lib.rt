@@ -2,19 +2,19 @@
 ghost use Rattle.std.specs.Prelude.{ℕ, ◌+◌, ◌*◌, ◌≤◌, ◌≡◌, true, List, [], ◌∷◌, map, length, drop};
 ghost use Rattle.std.proofs.Math.Option;
 ghost use Rattle.rules.specs.Bytes.{Bytes, concat};
-ghost use Rattle.rules.specs.Head.{headBytes};
+ghost use Rattle.rules.specs.Head.{head_bytes};
 ghost use Rattle.rules.specs.Model as Model;
-ghost use Rattle.rules.specs.Model.{address, mapScheme, mapAuthority, mapOpening, elements, limits, mostLabels};
+ghost use Rattle.rules.specs.Model.{address, map_scheme, map_authority, map_opening, elements, limits, most_labels};
 ghost use Rattle.rules.specs.Reader.{taken};
-ghost use Rattle.rules.specs.Encode.{textsItem, nullItem, or_null, tailItems, portItems, authorityItem, schemeItem, encode};
-ghost use Rattle.rules.specs.Writing.{schemeTexts, hostTexts, whereSet, openingTexts, allTexts, counted, inside, Lie};
-ghost use Rattle.rules.specs.Calls.{outcome, after, writeCall};
-ghost use Rattle.cbor.specs.Heads.{kindIs, spanIs};
-ghost use Rattle.reader.specs.Answers.{portOf};
-ghost use Rattle.outcomes.specs.Answers.{outcomeIs};
-ghost use Rattle.components.specs.Content.{spansOf, schemeOf, authorityOf, openingOf, textsOf, fragmentOf, mostNumbers, hostCount, labelCount, textCount, componentsOf};
+ghost use Rattle.rules.specs.Encode.{texts_item, null_item, or_null, tail_items, port_items, authority_item, scheme_item, encode};
+ghost use Rattle.rules.specs.Writing.{scheme_texts, host_texts, where_set, opening_texts, all_texts, counted, inside, Lie};
+ghost use Rattle.rules.specs.Calls.{outcome, after, write_call};
+ghost use Rattle.cbor.specs.Heads.{kind_is, span_is};
+ghost use Rattle.reader.specs.Answers.{port_of};
+ghost use Rattle.outcomes.specs.Answers.{outcome_is};
+ghost use Rattle.components.specs.Content.{spans_of, scheme_of, authority_of, opening_of, texts_of, fragment_of, most_numbers, host_count, label_count, text_count, components_of};
 ghost use Rattle.writer.specs.Added.{Added};
-ghost use Rattle.writer.specs.AddedItems.{TailMay, saidBy, tailOf, stringItem, textItems, authorityItems, discardItems, openingItems, fragmentItems};
+ghost use Rattle.writer.specs.AddedItems.{TailMay, said_by, tail_of, string_item, text_items, authority_items, discard_items, opening_items, fragment_items};
 
 use cbor::{Kind, Span};
 use components::{
@@ -35,7 +35,7 @@ const OVER: usize = BYTES + 1;
 // ---- pieces: each is added at a place, and answers the place after it
 
 fn add_head(out: &mut Encoding, at: usize, kind: Kind, v: u64) -> usize
-    ensures { Added out.old at (Unit {0}) (headBytes (kindIs kind) v) out.new result }
+    ensures { Added out.old at (Unit {0}) (head_bytes (kind_is kind) v) out.new result }
 {
     if BYTES - cbor_heads::head_length(v) < at {
         return OVER;
@@ -45,7 +45,7 @@ fn add_head(out: &mut Encoding, at: usize, kind: Kind, v: u64) -> usize
 
 // The bytes of a span.
 fn add_part(out: &mut Encoding, at: usize, lent: &[u8], span: Span) -> usize
-    ensures { Added out.old at (inside lent.now (spanIs span) ≡ true) (taken lent.now (spanIs span)) out.new result }
+    ensures { Added out.old at (inside lent.now (span_is span) ≡ true) (taken lent.now (span_is span)) out.new result }
 {
     if lent.len() < span.length {
         return OVER;
@@ -64,14 +64,14 @@ fn add_part(out: &mut Encoding, at: usize, lent: &[u8], span: Span) -> usize
 
 // A text or a byte string.
 fn add_string(out: &mut Encoding, at: usize, kind: Kind, lent: &[u8], span: Span) -> usize
-    ensures { Added out.old at (inside lent.now (spanIs span) ≡ true) (stringItem (kindIs kind) (taken lent.now (spanIs span))) out.new result }
+    ensures { Added out.old at (inside lent.now (span_is span) ≡ true) (string_item (kind_is kind) (taken lent.now (span_is span))) out.new result }
 {
     let content = add_head(out, at, kind, span.length as u64);
     add_part(out, content, lent, span)
 }
 
 fn add_null(out: &mut Encoding, at: usize) -> usize
-    ensures { Added out.old at (Unit {0}) (nullItem) out.new result }
+    ensures { Added out.old at (Unit {0}) (null_item) out.new result }
 {
     add_head(out, at, Kind::Null, 22)
 }
@@ -87,8 +87,8 @@ fn add_texts(
     from: usize,
     n: usize,
 ) -> usize
-    requires { from + 2 * n ≤ mostNumbers }
-    ensures { Added out.old at (Lie lent.now (spansOf n (drop from spans.now))) (textItems lent.now (spansOf n (drop from spans.now))) out.new result }
+    requires { from + 2 * n ≤ most_numbers }
+    ensures { Added out.old at (Lie lent.now (spans_of n (drop from spans.now))) (text_items lent.now (spans_of n (drop from spans.now))) out.new result }
 {
     let mut next = at;
     let mut i = from;
@@ -122,7 +122,7 @@ fn carried(number: u64) -> u64
 }
 
 fn add_scheme(out: &mut Encoding, at: usize, lent: &[u8], scheme: Scheme) -> usize
-    ensures { Added out.old at (Lie lent.now (whereSet schemeTexts (schemeOf scheme))) (or_null schemeItem (Option.map (mapScheme (taken lent.now)) (schemeOf scheme))) out.new result }
+    ensures { Added out.old at (Lie lent.now (where_set scheme_texts (scheme_of scheme))) (or_null scheme_item (Option.map (map_scheme (taken lent.now)) (scheme_of scheme))) out.new result }
 {
     match scheme {
         Scheme::Unset => add_null(out, at),
@@ -132,7 +132,7 @@ fn add_scheme(out: &mut Encoding, at: usize, lent: &[u8], scheme: Scheme) -> usi
 }
 
 fn port_items(port: Port) -> u64
-    ensures { result ≡ length (portItems (portOf port)) }
+    ensures { result ≡ length (port_items (port_of port)) }
 {
     match port {
         Port::Unset => 0,
@@ -141,7 +141,7 @@ fn port_items(port: Port) -> u64
 }
 
 fn add_port(out: &mut Encoding, at: usize, port: Port) -> usize
-    ensures { Added out.old at (Unit {0}) (concat (portItems (portOf port))) out.new result }
+    ensures { Added out.old at (Unit {0}) (concat (port_items (port_of port))) out.new result }
 {
     match port {
         Port::Unset => at,
@@ -150,7 +150,7 @@ fn add_port(out: &mut Encoding, at: usize, port: Port) -> usize
 }
 
 fn add_address(out: &mut Encoding, at: usize, lent: &[u8], span: Span, port: Port) -> usize
-    ensures { Added out.old at (inside lent.now (spanIs span) ≡ true) (authorityItem (record { host = address (taken lent.now (spanIs span)); port = portOf port })) out.new result }
+    ensures { Added out.old at (inside lent.now (span_is span) ≡ true) (authority_item (record { host = address (taken lent.now (span_is span)); port = port_of port })) out.new result }
 {
     let host = add_head(out, at, Kind::Array, 1 + port_items(port));
     let after = add_string(out, host, Kind::ByteString, lent, span);
@@ -166,8 +166,8 @@ fn add_name(
     n: usize,
     port: Port,
 ) -> usize
-    requires { n ≤ mostLabels }
-    ensures { Added out.old at (Lie lent.now (spansOf n spans.now)) (authorityItem (record { host = Model.labels (map (taken lent.now) (spansOf n spans.now)); port = portOf port })) out.new result }
+    requires { n ≤ most_labels }
+    ensures { Added out.old at (Lie lent.now (spans_of n spans.now)) (authority_item (record { host = Model.labels (map (taken lent.now) (spans_of n spans.now)); port = port_of port })) out.new result }
 {
     let host = add_head(out, at, Kind::Array, n as u64 + port_items(port));
     let after = add_texts(out, host, lent, spans, 0, n);
@@ -183,8 +183,8 @@ fn add_authority(
     authority: Authority,
     further: u64,
 ) -> usize
-    requires { hostCount authority ≤ mostLabels }
-    ensures { Added out.old at (Lie lent.now (whereSet (λ a. hostTexts a.host) (authorityOf spans.now authority))) (concat (authorityItems (Option.map (mapAuthority (taken lent.now)) (authorityOf spans.now authority)) further)) out.new result }
+    requires { host_count authority ≤ most_labels }
+    ensures { Added out.old at (Lie lent.now (where_set (λ a. host_texts a.host) (authority_of spans.now authority))) (concat (authority_items (Option.map (map_authority (taken lent.now)) (authority_of spans.now authority)) further)) out.new result }
 {
     match authority {
         Authority::Unset => if further == 0 { at } else { add_null(out, at) },
@@ -195,7 +195,7 @@ fn add_authority(
 
 // How many items a discard is before `further` items: 0 alone is left off.
 fn discard_items(k: u64, further: u64) -> u64
-    ensures { result ≡ length (discardItems k further) }
+    ensures { result ≡ length (discard_items k further) }
 {
     if 0 < further {
         return 1;
@@ -207,7 +207,7 @@ fn discard_items(k: u64, further: u64) -> u64
 }
 
 fn add_discard(out: &mut Encoding, at: usize, k: u64, further: u64) -> usize
-    ensures { Added out.old at (Unit {0}) (concat (discardItems k further)) out.new result }
+    ensures { Added out.old at (Unit {0}) (concat (discard_items k further)) out.new result }
 {
     if discard_items(k, further) == 0 {
         return at;
@@ -224,8 +224,8 @@ fn add_opening(
     opening: Opening,
     further: u64,
 ) -> usize
-    requires { labelCount opening ≤ mostLabels }
-    ensures { Added out.old at (Lie lent.now (openingTexts (openingOf spans.now opening))) (concat (openingItems (mapOpening (taken lent.now) (openingOf spans.now opening)) further)) out.new result }
+    requires { label_count opening ≤ most_labels }
+    ensures { Added out.old at (Lie lent.now (opening_texts (opening_of spans.now opening))) (concat (opening_items (map_opening (taken lent.now) (opening_of spans.now opening)) further)) out.new result }
 {
     match opening {
         Opening::Discard(k) => add_discard(out, at, k, further),
@@ -238,7 +238,7 @@ fn add_opening(
 }
 
 fn authority_items(authority: Authority, further: u64) -> u64
-    ensures { (lent : Bytes) (xs : List ℕ) → result ≡ length (authorityItems (Option.map (mapAuthority (taken lent)) (authorityOf xs authority)) further) }
+    ensures { (lent : Bytes) (xs : List ℕ) → result ≡ length (authority_items (Option.map (map_authority (taken lent)) (authority_of xs authority)) further) }
 {
     match authority {
         Authority::Unset => if further == 0 { 0 } else { 1 },
@@ -249,7 +249,7 @@ fn authority_items(authority: Authority, further: u64) -> u64
 
 // How many items an opening is before `further` items.
 fn opening_items(opening: Opening, further: u64) -> u64
-    ensures { (lent : Bytes) (xs : List ℕ) → result ≡ length (openingItems (mapOpening (taken lent) (openingOf xs opening)) further) }
+    ensures { (lent : Bytes) (xs : List ℕ) → result ≡ length (opening_items (map_opening (taken lent) (opening_of xs opening)) further) }
 {
     match opening {
         Opening::Discard(k) => discard_items(k, further),
@@ -269,8 +269,8 @@ fn add_slot(
     from: usize,
     texts: Texts,
 ) -> usize
-    requires { from + 2 * textCount texts ≤ mostNumbers }
-    ensures { Added out.old at (Lie lent.now (elements (textsOf (drop from spans.now) texts))) (or_null textsItem (Option.map (map (taken lent.now)) (textsOf (drop from spans.now) texts))) out.new result }
+    requires { from + 2 * text_count texts ≤ most_numbers }
+    ensures { Added out.old at (Lie lent.now (elements (texts_of (drop from spans.now) texts))) (or_null texts_item (Option.map (map (taken lent.now)) (texts_of (drop from spans.now) texts))) out.new result }
 {
     match texts {
         Texts::Unset => add_null(out, at),
@@ -282,7 +282,7 @@ fn add_slot(
 }
 
 fn add_fragment(out: &mut Encoding, at: usize, lent: &[u8], fragment: Fragment) -> usize
-    ensures { Added out.old at (Lie lent.now (whereSet (λ t. t ∷ []) (fragmentOf fragment))) (concat (fragmentItems (Option.map (taken lent.now) (fragmentOf fragment)))) out.new result }
+    ensures { Added out.old at (Lie lent.now (where_set (λ t. t ∷ []) (fragment_of fragment))) (concat (fragment_items (Option.map (taken lent.now) (fragment_of fragment)))) out.new result }
 {
     match fragment {
         Fragment::Unset => at,
@@ -292,7 +292,7 @@ fn add_fragment(out: &mut Encoding, at: usize, lent: &[u8], fragment: Fragment) 
 
 // How many items follow the opening: what is unset at the end is left off.
 fn further_items(path: Texts, query: Texts, fragment: Fragment) -> u64
-    ensures { (lent : Bytes) (xs ys : List ℕ) → result ≡ length (tailItems (Option.map (map (taken lent)) (textsOf xs path)) (Option.map (map (taken lent)) (textsOf ys query)) (Option.map (taken lent) (fragmentOf fragment))) }
+    ensures { (lent : Bytes) (xs ys : List ℕ) → result ≡ length (tail_items (Option.map (map (taken lent)) (texts_of xs path)) (Option.map (map (taken lent)) (texts_of ys query)) (Option.map (taken lent) (fragment_of fragment))) }
 {
     match fragment {
         Fragment::Is(_) => 3,
@@ -315,9 +315,9 @@ fn add_further(
     c: Components,
     further: u64,
 ) -> usize
-    requires further_value { further ≡ length (tailOf (saidBy lent.now spans.now c)) }
-    requires c_value { counted limits (componentsOf spans.now c) ≡ true }
-    ensures { Added out.old at (TailMay lent.now (componentsOf spans.now c)) (concat (tailOf (saidBy lent.now spans.now c))) out.new result }
+    requires further_value { further ≡ length (tail_of (said_by lent.now spans.now c)) }
+    requires c_value { counted limits (components_of spans.now c) ≡ true }
+    ensures { Added out.old at (TailMay lent.now (components_of spans.now c)) (concat (tail_of (said_by lent.now spans.now c))) out.new result }
 {
     let opening = c.opening;
     let path = c.path;
@@ -340,7 +340,7 @@ fn add_further(
 
 // 9.2: whether no count is over its size.
 fn is_counted(c: Components) -> bool
-    ensures { (xs : List ℕ) → result ≡ counted limits (componentsOf xs c) }
+    ensures { (xs : List ℕ) → result ≡ counted limits (components_of xs c) }
 {
     let opening = c.opening;
     let path = c.path;
@@ -355,8 +355,8 @@ fn is_counted(c: Components) -> bool
 }
 
 fn add_reference(out: &mut Encoding, lent: &[u8], spans: &Spans, c: Components) -> usize
-    requires { counted limits (componentsOf spans.now c) ≡ true }
-    ensures { Added out.old 0 (Lie lent.now (allTexts (componentsOf spans.now c))) (encode (saidBy lent.now spans.now c)) out.new result }
+    requires { counted limits (components_of spans.now c) ≡ true }
+    ensures { Added out.old 0 (Lie lent.now (all_texts (components_of spans.now c))) (encode (said_by lent.now spans.now c)) out.new result }
 {
     let opening = c.opening;
     let path = c.path;
@@ -375,8 +375,8 @@ fn add_reference(out: &mut Encoding, lent: &[u8], spans: &Spans, c: Components) 
 
 // The answer, and the encoding in the room.
 pub fn write(c: Components, spans: &Spans, lent: &[u8], room: &mut [u8]) -> Outcome
-    ensures result_value { outcomeIs result ≡ outcome (writeCall limits (componentsOf spans.now c) lent.now) (length room.old) }
-    ensures room_after { room.new ≡ after (writeCall limits (componentsOf spans.now c) lent.now) room.old }
+    ensures result_value { outcome_is result ≡ outcome (write_call limits (components_of spans.now c) lent.now) (length room.old) }
+    ensures room_after { room.new ≡ after (write_call limits (components_of spans.now c) lent.now) room.old }
 {
     if !is_counted(c) {
         return outcomes::refused(LIMIT, 0);

@@ -2,7 +2,7 @@
 use mathlib.Core.Path.{ap}
 use Rattle.rules.specs.Result.{ok}
 use Rattle.rules.specs.Model.{Span}
-use Rattle.rules.specs.Views.{ofReference}
+use Rattle.rules.specs.Views.{of_reference}
 use borrow.Author.Rules.{rules}
 use Rattle.authority_view.proofs.chosen_item.Statement.{statement}
 use Rattle.authority_view.proofs.chosen_item.Tie as tie
@@ -17,7 +17,7 @@ returns-2 : tie.Need-returns-2
 returns-2 c = simp c.before.enum-told2.given.1 c.base-item2.ensures
 
 returns-3 : tie.Need-returns-3
-returns-3 c = simp c.before.before.reference.given.1 (ap (λ (s : Span). ok (ofReference s)) c.item-span.ensures)
+returns-3 c = simp c.before.before.reference.given.1 (ap (λ (s : Span). ok (of_reference s)) c.item-span.ensures)
 
 pub chosen-item-spec : {M : Type 1} → statement M
 chosen-item-spec =

@@ -10,53 +10,53 @@ use Rattle.rules.specs.Head.{code_of, read_head}
 use Rattle.cbor.specs.declared.Item.{Item}
 use Rattle.cbor.specs.declared.Item.TheVariants as ItemV
 use Rattle.cbor.specs.contracts.Item.{the_type}
-use Rattle.cbor.specs.Heads.{allows, itemIs}
-use Rattle.cbor.proofs.Heads.{answered, head-accepted, head_never}
-use Rattle.bench.specs.Answers.{textOrNumber, afterItem}
-use Rattle.bench.proofs.Answers.{labelKinds, label-kinds, after_text, after-number, after-refused}
+use Rattle.cbor.specs.Heads.{allows, item_is}
+use Rattle.cbor.proofs.Heads.{answered, head_accepted, head_never}
+use Rattle.bench.specs.Answers.{text_or_number, after_item}
+use Rattle.bench.proofs.Answers.{label_kinds, label_kinds_lem, after_text, after_number, after_refused}
 use borrow.Author.Rules.{rules}
 use Rattle.bench.proofs.after_label.Statement.{statement}
 use Rattle.bench.proofs.after_label.Tie as tie
 
 -- what the reader of items answered
-read : (s : Bytes) (at : ℕ) (r i : Item) → itemIs at r ≡ read_head (allows labelKinds) s at → r ≡ i → itemIs at i ≡ read_head textOrNumber s at
-read s at r i e g = answered (itemIs at) e g ∙ ap (λ p. read_head p s at) label-kinds
+read : (s : Bytes) (at : ℕ) (r i : Item) → item_is at r ≡ read_head (allows label_kinds) s at → r ≡ i → item_is at i ≡ read_head text_or_number s at
+read s at r i e g = answered (item_is at) e g ∙ ap (λ p. read_head p s at) label_kinds_lem
 
 -- no item of another kind
-other : (s : Bytes) (at : ℕ) (i : Item) → itemIs at i ≡ read_head textOrNumber s at → OneOf (1 ∷ 2 ∷ 4 ∷ 5 ∷ 6 ∷ []) (tag_of the_type i) → refused 2 at ≡ afterItem textOrNumber s at
+other : (s : Bytes) (at : ℕ) (i : Item) → item_is at i ≡ read_head text_or_number s at → OneOf (1 ∷ 2 ∷ 4 ∷ 5 ∷ 6 ∷ []) (tag_of the_type i) → refused 2 at ≡ after_item text_or_number s at
 unfolding code_of
 other s at (ItemV.Number v n) e k = absurd (miss (1 ∷ 2 ∷ 4 ∷ 5 ∷ 6 ∷ []) 0 tt k)
-other s at (ItemV.Negative v n) e k = head_never (head-accepted e) refl
-other s at (ItemV.ByteString v n) e k = head_never (head-accepted e) refl
+other s at (ItemV.Negative v n) e k = head_never (head_accepted e) refl
+other s at (ItemV.ByteString v n) e k = head_never (head_accepted e) refl
 other s at (ItemV.Text v n) e k = absurd (miss (1 ∷ 2 ∷ 4 ∷ 5 ∷ 6 ∷ []) 3 tt k)
-other s at (ItemV.Array v n) e k = head_never (head-accepted e) refl
-other s at (ItemV.True n) e k = head_never (head-accepted e) refl
-other s at (ItemV.Null n) e k = head_never (head-accepted e) refl
+other s at (ItemV.Array v n) e k = head_never (head_accepted e) refl
+other s at (ItemV.True n) e k = head_never (head_accepted e) refl
+other s at (ItemV.Null n) e k = head_never (head_accepted e) refl
 other s at (ItemV.Refused x) e k = absurd (miss (1 ∷ 2 ∷ 4 ∷ 5 ∷ 6 ∷ []) 7 tt k)
 
 after-content-requires : tie.Need-after-content-requires
 after-content-requires c κs =
     let i = c.before.before.before in
     let a = i.before.before.args in
-    (head-accepted (read a.s.now a.at _ _ i.item-at.ensures c.before.n.given.1)).inside
+    (head_accepted (read a.s.now a.at _ _ i.item-at.ensures c.before.n.given.1)).inside
 
 returns : tie.Need-returns
 returns c =
     let i = c.before.before.before.before in
     let a = i.before.before.args in
-    c.after-content.ensures a.at ∙ after_text textOrNumber _ a.at _ _ (read a.s.now a.at _ _ i.item-at.ensures c.before.before.n.given.1)
+    c.after-content.ensures a.at ∙ after_text text_or_number _ a.at _ _ (read a.s.now a.at _ _ i.item-at.ensures c.before.before.n.given.1)
 
 returns-2 : tie.Need-returns-2
 returns-2 c =
     let i = c.before.before.before in
     let a = i.before.before.args in
-    after-number textOrNumber _ a.at _ _ (read a.s.now a.at _ _ i.item-at.ensures c.before.next.given.1)
+    after_number text_or_number _ a.at _ _ (read a.s.now a.at _ _ i.item-at.ensures c.before.next.given.1)
 
 returns-3 : tie.Need-returns-3
 returns-3 c =
     let i = c.before.before.before in
     let a = i.before.before.args in
-    after-refused textOrNumber _ a.at _ (read a.s.now a.at _ _ i.item-at.ensures c.before.k.given.1)
+    after_refused text_or_number _ a.at _ (read a.s.now a.at _ _ i.item-at.ensures c.before.k.given.1)
 
 returns-4 : tie.Need-returns-4
 returns-4 c =

@@ -10,35 +10,35 @@ use Rattle.rules.specs.Head.{Text, code_of, is, read_head}
 use Rattle.cbor.specs.declared.Item.{Item}
 use Rattle.cbor.specs.declared.Item.TheVariants as ItemV
 use Rattle.cbor.specs.contracts.Item.{the_type}
-use Rattle.cbor.specs.Heads.{allows, itemIs}
-use Rattle.cbor.proofs.Heads.{answered, head-accepted, head_never}
-use Rattle.bench.specs.Answers.{afterItem}
-use Rattle.bench.proofs.Answers.{textKind, text-kind, after_text, after-refused}
+use Rattle.cbor.specs.Heads.{allows, item_is}
+use Rattle.cbor.proofs.Heads.{answered, head_accepted, head_never}
+use Rattle.bench.specs.Answers.{after_item}
+use Rattle.bench.proofs.Answers.{text_kind, text_kind_lem, after_text, after_refused}
 use borrow.Author.Rules.{rules}
 use Rattle.bench.proofs.after_text.Statement.{statement}
 use Rattle.bench.proofs.after_text.Tie as tie
 
 -- what the reader of items answered
-read : (s : Bytes) (at : ℕ) (r i : Item) → itemIs at r ≡ read_head (allows textKind) s at → r ≡ i → itemIs at i ≡ read_head (is Text) s at
-read s at r i e g = answered (itemIs at) e g ∙ ap (λ p. read_head p s at) text-kind
+read : (s : Bytes) (at : ℕ) (r i : Item) → item_is at r ≡ read_head (allows text_kind) s at → r ≡ i → item_is at i ≡ read_head (is Text) s at
+read s at r i e g = answered (item_is at) e g ∙ ap (λ p. read_head p s at) text_kind_lem
 
 -- no item of another kind
-other : (s : Bytes) (at : ℕ) (i : Item) → itemIs at i ≡ read_head (is Text) s at → OneOf (0 ∷ 1 ∷ 2 ∷ 4 ∷ 5 ∷ 6 ∷ []) (tag_of the_type i) → refused 2 at ≡ afterItem (is Text) s at
+other : (s : Bytes) (at : ℕ) (i : Item) → item_is at i ≡ read_head (is Text) s at → OneOf (0 ∷ 1 ∷ 2 ∷ 4 ∷ 5 ∷ 6 ∷ []) (tag_of the_type i) → refused 2 at ≡ after_item (is Text) s at
 unfolding code_of
-other s at (ItemV.Number v n) e k = head_never (head-accepted e) refl
-other s at (ItemV.Negative v n) e k = head_never (head-accepted e) refl
-other s at (ItemV.ByteString v n) e k = head_never (head-accepted e) refl
+other s at (ItemV.Number v n) e k = head_never (head_accepted e) refl
+other s at (ItemV.Negative v n) e k = head_never (head_accepted e) refl
+other s at (ItemV.ByteString v n) e k = head_never (head_accepted e) refl
 other s at (ItemV.Text v n) e k = absurd (miss (0 ∷ 1 ∷ 2 ∷ 4 ∷ 5 ∷ 6 ∷ []) 3 tt k)
-other s at (ItemV.Array v n) e k = head_never (head-accepted e) refl
-other s at (ItemV.True n) e k = head_never (head-accepted e) refl
-other s at (ItemV.Null n) e k = head_never (head-accepted e) refl
+other s at (ItemV.Array v n) e k = head_never (head_accepted e) refl
+other s at (ItemV.True n) e k = head_never (head_accepted e) refl
+other s at (ItemV.Null n) e k = head_never (head_accepted e) refl
 other s at (ItemV.Refused x) e k = absurd (miss (0 ∷ 1 ∷ 2 ∷ 4 ∷ 5 ∷ 6 ∷ []) 7 tt k)
 
 after-content-requires : tie.Need-after-content-requires
 after-content-requires c κs =
     let i = c.before.before.before in
     let a = i.before.before.args in
-    (head-accepted (read a.s.now a.at _ _ i.item-at.ensures c.before.n.given.1)).inside
+    (head_accepted (read a.s.now a.at _ _ i.item-at.ensures c.before.n.given.1)).inside
 
 returns : tie.Need-returns
 returns c =
@@ -50,7 +50,7 @@ returns-2 : tie.Need-returns-2
 returns-2 c =
     let i = c.before.before.before in
     let a = i.before.before.args in
-    after-refused (is Text) _ a.at _ (read a.s.now a.at _ _ i.item-at.ensures c.before.k.given.1)
+    after_refused (is Text) _ a.at _ (read a.s.now a.at _ _ i.item-at.ensures c.before.k.given.1)
 
 returns-3 : tie.Need-returns-3
 returns-3 c =

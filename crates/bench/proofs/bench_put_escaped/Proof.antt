@@ -4,8 +4,8 @@ use lib.ListN.{length}
 use lib.Seq.{take-length}
 use Rattle.rules.specs.Bytes.{part}
 use Rattle.rules.proofs.Tools.{length_part}
-use Rattle.rules.proofs.Escapes.{escape-length}
-use Rattle.uri_escape.specs.Escape.{classIs}
+use Rattle.rules.proofs.Escapes.{escape_length}
+use Rattle.uri_escape.specs.Escape.{class_is}
 use borrow.Author.Rules.{rules}
 use Rattle.bench.proofs.bench_put_escaped.Statement.{statement}
 use Rattle.bench.proofs.bench_put_escaped.Tie as tie
@@ -17,7 +17,7 @@ returns : tie.Need-returns
 returns c =
     let k = c.before.before in
     let src = k.before.before.before.args.src.now in
-    let none : ⊥ = omega (arith, escape-length (classIs k.class_of.result) (part src 0 (length src)), length_part src 0 (length src) (omega arith)) in
+    let none : ⊥ = omega (arith, escape_length (class_is k.class_of.result) (part src 0 (length src)), length_part src 0 (length src) (omega arith)) in
     absurd none
 
 put-escaped-requires : tie.Need-put-escaped-requires

@@ -2,41 +2,41 @@
 use mathlib.Core.Path.{◌≡◌, refl, sym, ap, ◌∙◌}
 use native.Mathlib.Omega.{arith}
 use Rattle.rules.specs.Head.{Text, is}
-use Rattle.bench.specs.Answers.{items, answer, stepIs}
-use Rattle.bench.proofs.Answers.{items-next, items_refused, items-end}
+use Rattle.bench.specs.Answers.{items, answer, step_is}
+use Rattle.bench.proofs.Answers.{items_next, items_refused, items_end}
 use borrow.Author.Rules.{rules}
 use Rattle.bench.proofs.bench_texts.Statement.{statement}
 use Rattle.bench.proofs.bench_texts.Tie as tie
 
-abbrev invariant-loop : tie.invariant-loop
-invariant-loop s count at₀ left₀ at left = items (is Text) s 0 count ≡ items (is Text) s at left
+abbrev invariant_loop : tie.invariant_loop
+invariant_loop s count at₀ left₀ at left = items (is Text) s 0 count ≡ items (is Text) s at left
 
-abbrev decreases-loop : tie.decreases-loop
-decreases-loop s count at₀ left₀ at left = left
+abbrev decreases_loop : tie.decreases_loop
+decreases_loop s count at₀ left₀ at left = left
 
-loop-holds : tie.Need-loop-init invariant-loop decreases-loop
+loop-holds : tie.Need-loop-init invariant_loop decreases_loop
 loop-holds c = refl
 
-returns : tie.Need-returns invariant-loop decreases-loop
+returns : tie.Need-returns invariant_loop decreases_loop
 returns c =
     let a = c.before.before.before in
     let l = a.before.before.loop in
-    let e = ap (stepIs l.at) (sym c.before.k.given.1) ∙ a.after_text.ensures in
+    let e = ap (step_is l.at) (sym c.before.k.given.1) ∙ a.after_text.ensures in
     ap answer (sym (l.invariant ∙ items_refused (is Text) a.before.before.before.before.args.s.now l.at _ l.left a.before.loop-test.true e))
 
-loop-again : tie.Need-loop-preserved invariant-loop decreases-loop
+loop-again : tie.Need-loop-preserved invariant_loop decreases_loop
 loop-again c =
     let a = c.before.before.before in
     let l = a.before.before.loop in
-    let e = ap (stepIs l.at) (sym c.before.next.given.1) ∙ a.after_text.ensures in
-    l.invariant ∙ items-next (is Text) a.before.before.before.before.args.s.now l.at _ l.left a.before.loop-test.true e
+    let e = ap (step_is l.at) (sym c.before.next.given.1) ∙ a.after_text.ensures in
+    l.invariant ∙ items_next (is Text) a.before.before.before.before.args.s.now l.at _ l.left a.before.loop-test.true e
 
-returns-2 : tie.Need-returns-2 invariant-loop decreases-loop
+returns-2 : tie.Need-returns-2 invariant_loop decreases_loop
 returns-2 c =
     let l = c.before.loop in
-    ap answer (sym (l.invariant ∙ items-end (is Text) c.before.before.before.args.s.now l.at l.left (omega arith)))
+    ap answer (sym (l.invariant ∙ items_end (is Text) c.before.before.before.args.s.now l.at l.left (omega arith)))
 
 pub bench-texts-spec : {M : Type 1} → statement M
 bench-texts-spec =
     tie.close
-    (tie.spec invariant-loop decreases-loop loop-holds (λ c κs. search rules) (λ c. search rules) (λ c. search rules) returns (λ c. search rules) (λ c. search rules) (λ c. search rules) loop-again returns-2)
+    (tie.spec invariant_loop decreases_loop loop-holds (λ c κs. search rules) (λ c. search rules) (λ c. search rules) returns (λ c. search rules) (λ c. search rules) (λ c. search rules) loop-again returns-2)

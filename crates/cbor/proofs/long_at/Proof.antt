@@ -1,12 +1,12 @@
--- `cbor::long_at` meets its contract: the tests that led to each return are the steps of `readArgument`.
+-- `cbor::long_at` meets its contract: the tests that led to each return are the steps of `read_argument`.
 use Prim.Native.Nat.{ℕ, ◌+◌}
 use native.Mathlib.Omega.{arith}
 use mathlib.Core.Path.{refl, ap, ◌∙◌}
-use Rattle.rules.specs.Bytes.{part, numberFrom}
+use Rattle.rules.specs.Bytes.{part, number_from}
 use Rattle.rules.specs.Head.{width}
-use Rattle.rules.proofs.Tools.{octets-of}
+use Rattle.rules.proofs.Tools.{octets_of}
 use Rattle.cbor.specs.Heads.{accepted}
-use Rattle.cbor.proofs.Heads.{width-most, argument_cut, argument-less, argument-enough}
+use Rattle.cbor.proofs.Heads.{width_most, argument_cut, argument_less, argument_enough}
 use borrow.Author.Rules.{rules}
 use Rattle.cbor.proofs.long_at.Statement.{statement}
 use Rattle.cbor.proofs.long_at.Tie as tie
@@ -21,7 +21,7 @@ returns c =
 number-at-requires : tie.Need-number-at-requires
 number-at-requires c κs =
     let s = c.before.before.before in
-    (omega arith, omega (arith, c.before.width_of_lem.ensures, width-most s.args.info s.requires.2))
+    (omega arith, omega (arith, c.before.width_of_lem.ensures, width_most s.args.info s.requires.2))
 
 returns-2 : tie.Need-returns-2
 returns-2 c =
@@ -30,8 +30,8 @@ returns-2 c =
     let w = n.before.before in
     let s = w.before.before in
     let a = s.args in
-    argument-less k a.info a.s.now a.at _ (octets-of a.s.now (λ i. (w.before.shared-slice-known.given i).fits)) s.requires.1 s.requires.2 (omega (arith, w.width_of_lem.ensures))
-    (n.number_at.ensures ∙ ap (λ (x : ℕ). numberFrom 0 (part a.s.now (a.at + 1) x)) w.width_of_lem.ensures)
+    argument_less k a.info a.s.now a.at _ (octets_of a.s.now (λ i. (w.before.shared-slice-known.given i).fits)) s.requires.1 s.requires.2 (omega (arith, w.width_of_lem.ensures))
+    (n.number_at.ensures ∙ ap (λ (x : ℕ). number_from 0 (part a.s.now (a.at + 1) x)) w.width_of_lem.ensures)
     (omega (arith, c.before.least-of.ensures))
 
 returns-3 : tie.Need-returns-3
@@ -42,8 +42,8 @@ returns-3 c =
     let s = w.before.before in
     let a = s.args in
     ap (λ (x : ℕ). accepted k n.number_at.result (a.at + 1 + x)) w.width_of_lem.ensures
-    ∙ argument-enough k a.info a.s.now a.at _ (octets-of a.s.now (λ i. (w.before.shared-slice-known.given i).fits)) s.requires.1 s.requires.2 (omega (arith, w.width_of_lem.ensures))
-    (n.number_at.ensures ∙ ap (λ (x : ℕ). numberFrom 0 (part a.s.now (a.at + 1) x)) w.width_of_lem.ensures)
+    ∙ argument_enough k a.info a.s.now a.at _ (octets_of a.s.now (λ i. (w.before.shared-slice-known.given i).fits)) s.requires.1 s.requires.2 (omega (arith, w.width_of_lem.ensures))
+    (n.number_at.ensures ∙ ap (λ (x : ℕ). number_from 0 (part a.s.now (a.at + 1) x)) w.width_of_lem.ensures)
     (omega (arith, c.before.least-of.ensures))
 
 pub long-at-spec : {M : Type 1} → statement M

@@ -2,7 +2,7 @@
 use native.Mathlib.Omega.{arith}
 use mathlib.Core.Path.{refl}
 use lib.Dec.{ltb}
-use Rattle.coap_options.proofs.Pieces.{numbers-most, deltas-are}
+use Rattle.coap_options.proofs.Pieces.{numbers_most, deltas_are}
 use borrow.Author.Rules.{rules}
 use Rattle.coap_options.proofs.deltas_of.Statement.{statement}
 use Rattle.coap_options.proofs.deltas_of.Tie as tie
@@ -14,7 +14,7 @@ sub-t9 c =
     let number-after' = is-set2'.before in
     let is-set' = number-after'.before in
     let start = is-set'.before.before in
-    let n = numbers-most is-set'.is_set.result is-set2'.is-set2.result (ltb 0 start.args.request.path.count) _ _ _ number-after'.number-after.ensures number-after2'.number-after2.ensures c.number-after3.ensures in
+    let n = numbers_most is-set'.is_set.result is-set2'.is-set2.result (ltb 0 start.args.request.path.count) _ _ _ number-after'.number_after_lem.ensures number-after2'.number-after2.ensures c.number-after3.ensures in
     omega (arith, n.0)
 
 sub-t10 : tie.Need-overflow-sub-t10
@@ -24,7 +24,7 @@ sub-t10 c =
     let number-after' = is-set2'.before in
     let is-set' = number-after'.before in
     let start = is-set'.before.before in
-    let n = numbers-most is-set'.is_set.result is-set2'.is-set2.result (ltb 0 start.args.request.path.count) _ _ _ number-after'.number-after.ensures number-after2'.number-after2.ensures c.number-after3.ensures in
+    let n = numbers_most is-set'.is_set.result is-set2'.is-set2.result (ltb 0 start.args.request.path.count) _ _ _ number-after'.number_after_lem.ensures number-after2'.number-after2.ensures c.number-after3.ensures in
     omega (arith, n.1)
 
 sub-t11 : tie.Need-overflow-sub-t11
@@ -34,7 +34,7 @@ sub-t11 c =
     let number-after' = is-set2'.before in
     let is-set' = number-after'.before in
     let start = is-set'.before.before in
-    let n = numbers-most is-set'.is_set.result is-set2'.is-set2.result (ltb 0 start.args.request.path.count) _ _ _ number-after'.number-after.ensures number-after2'.number-after2.ensures c.number-after3.ensures in
+    let n = numbers_most is-set'.is_set.result is-set2'.is-set2.result (ltb 0 start.args.request.path.count) _ _ _ number-after'.number_after_lem.ensures number-after2'.number-after2.ensures c.number-after3.ensures in
     omega (arith, n.2)
 
 returns : tie.Need-returns
@@ -43,7 +43,7 @@ returns c =
     let is-set2' = number-after2'.before in
     let number-after' = is-set2'.before in
     let is-set' = number-after'.before in
-    deltas-are is-set'.is_set.ensures number-after'.number-after.ensures is-set2'.is-set2.ensures number-after2'.number-after2.ensures refl c.number-after3.ensures
+    deltas_are is-set'.is_set.ensures number-after'.number_after_lem.ensures is-set2'.is-set2.ensures number-after2'.number-after2.ensures refl c.number-after3.ensures
 
 pub deltas-of-spec : {M : Type 1} → statement M
 deltas-of-spec =

@@ -5,13 +5,13 @@ use mathlib.Core.Path.{sym, ap, ◌∙◌}
 use mathlib.Core.Option.{get_or}
 use Rattle.rules.specs.Bytes.{Bytes}
 use Rattle.rules.specs.Result.{ok}
-use Rattle.rules.proofs.OptionsBack.{port-most}
-use Rattle.outcomes.proofs.Answers.{right-refused, right-as}
-use Rattle.reader.specs.Answers.{slot_of, hostOf, portOf}
-use Rattle.schemes.specs.Schemes.{defaultIs}
-use Rattle.schemes.proofs.Table.{default-most}
-use Rattle.coap_options.specs.Requests.{optionsAt}
-use Rattle.coap_options.proofs.CallCases.{default_none, default-fragment, default-some}
+use Rattle.rules.proofs.OptionsBack.{port_most}
+use Rattle.outcomes.proofs.Answers.{right_refused, right_as}
+use Rattle.reader.specs.Answers.{slot_of, host_of, port_of}
+use Rattle.schemes.specs.Schemes.{default_is}
+use Rattle.schemes.proofs.Table.{default_most}
+use Rattle.coap_options.specs.Requests.{options_at}
+use Rattle.coap_options.proofs.CallCases.{default_none, default_fragment, default_some}
 use borrow.Author.Rules.{rules}
 use Rattle.coap_options.proofs.options_of_number.Statement.{statement}
 use Rattle.coap_options.proofs.options_of_number.Tie as tie
@@ -22,8 +22,8 @@ requested-requires c κs =
     let default' = port-or'.before.before.before.before in
     let default-port' = default'.before.before in
     let s = default-port'.before.before.before.before in
-    let m = default-most _ _ (sym default-port'.default-port.ensures ∙ ap defaultIs default'.default.given.1) in
-    let p = port-most (portOf s.args.authority.port) _ s.requires.1.1 m in
+    let m = default_most _ _ (sym default-port'.default_port_lem.ensures ∙ ap default_is default'.default.given.1) in
+    let p = port_most (port_of s.args.authority.port) _ s.requires.1.1 m in
     (s.requires.0.size, ((s.requires.1.0, omega (arith, p, port-or'.port-or.ensures)), (s.requires.0.path, s.requires.0.query)))
 
 returns : tie.Need-returns
@@ -32,8 +32,8 @@ returns c =
     let default-port' = enum-told'.before.before in
     let s = default-port'.before.before.before.before in
     let a = s.args in
-    let w : ℕ → Bytes = λ d. optionsAt a.s.now (hostOf a.authority.host) (get_or (portOf a.authority.port) d) (slot_of a.found.path) (slot_of a.found.query) a.to-address.now a.to-port in
-    let u = right-refused _ _ (default_none _ w (sym default-port'.default-port.ensures ∙ ap defaultIs enum-told'.enum_told.given.1)) in
+    let w : ℕ → Bytes = λ d. options_at a.s.now (host_of a.authority.host) (get_or (port_of a.authority.port) d) (slot_of a.found.path) (slot_of a.found.query) a.to-address.now a.to-port in
+    let u = right_refused _ _ (default_none _ w (sym default-port'.default_port_lem.ensures ∙ ap default_is enum-told'.enum_told.given.1)) in
     (c.refused.ensures ∙ u.answered, u.holds)
 
 returns-2 : tie.Need-returns-2
@@ -43,8 +43,8 @@ returns-2 c =
     let default-port' = default'.before.before in
     let s = default-port'.before.before.before.before in
     let a = s.args in
-    let w : ℕ → Bytes = λ d. optionsAt a.s.now (hostOf a.authority.host) (get_or (portOf a.authority.port) d) (slot_of a.found.path) (slot_of a.found.query) a.to-address.now a.to-port in
-    let u = right-refused _ _ (default-fragment _ w (sym default-port'.default-port.ensures ∙ ap defaultIs default'.default.given.1) (ap slot_of enum-told2'.enum-told2.given.1)) in
+    let w : ℕ → Bytes = λ d. options_at a.s.now (host_of a.authority.host) (get_or (port_of a.authority.port) d) (slot_of a.found.path) (slot_of a.found.query) a.to-address.now a.to-port in
+    let u = right_refused _ _ (default_fragment _ w (sym default-port'.default_port_lem.ensures ∙ ap default_is default'.default.given.1) (ap slot_of enum-told2'.enum-told2.given.1)) in
     (c.refused2.ensures ∙ u.answered, u.holds)
 
 returns-3 : tie.Need-returns-3
@@ -56,9 +56,9 @@ returns-3 c =
     let default-port' = default'.before.before in
     let s = default-port'.before.before.before.before in
     let a = s.args in
-    let w : ℕ → Bytes = λ d. optionsAt a.s.now (hostOf a.authority.host) (get_or (portOf a.authority.port) d) (slot_of a.found.path) (slot_of a.found.query) a.to-address.now a.to-port in
-    let u = ap (λ (p : ℕ). ok (optionsAt a.s.now (hostOf a.authority.host) p (slot_of a.found.path) (slot_of a.found.query) a.to-address.now a.to-port)) port-or'.port-or.ensures ∙ sym (default-some _ w (sym default-port'.default-port.ensures ∙ ap defaultIs default'.default.given.1) (ap slot_of enum-told3'.enum-told3.given.1)) in
-    right-as _ u requested'.requested.ensures
+    let w : ℕ → Bytes = λ d. options_at a.s.now (host_of a.authority.host) (get_or (port_of a.authority.port) d) (slot_of a.found.path) (slot_of a.found.query) a.to-address.now a.to-port in
+    let u = ap (λ (p : ℕ). ok (options_at a.s.now (host_of a.authority.host) p (slot_of a.found.path) (slot_of a.found.query) a.to-address.now a.to-port)) port-or'.port-or.ensures ∙ sym (default_some _ w (sym default-port'.default_port_lem.ensures ∙ ap default_is default'.default.given.1) (ap slot_of enum-told3'.enum-told3.given.1)) in
+    right_as _ u requested'.requested.ensures
 
 pub options-of-number-spec : {M : Type 1} → statement M
 options-of-number-spec =

@@ -1,7 +1,7 @@
 -- `coap_options::put_options` meets its contract.
 use native.Mathlib.Omega.{arith}
-use Rattle.put.proofs.Wrote.{wrote_then, wrote-length}
-use Rattle.coap_options.proofs.Pieces.{pieces-sum}
+use Rattle.put.proofs.Wrote.{wrote_then, wrote_length}
+use Rattle.coap_options.proofs.Pieces.{pieces_sum}
 use borrow.Author.Rules.{rules}
 use Rattle.coap_options.proofs.put_options.Statement.{statement}
 use Rattle.coap_options.proofs.put_options.Tie as tie
@@ -11,7 +11,7 @@ put-value-requires c κs =
     let s = c.before.before.before.before.before.before.before in
     let k = s.requires.0.0 in
     let m = s.requires.0.1 in
-    let z = pieces-sum s.args.host-src.now s.args.port-src.now s.args.s.now s.args.request s.args.deltas in
+    let z = pieces_sum s.args.host-src.now s.args.port-src.now s.args.s.now s.args.request s.args.deltas in
     ((omega arith, k.host), (s.requires.1.0.0, omega (arith, s.requires.1.1, z)))
 
 put-value-requires-2 : tie.Need-put-value-requires-2
@@ -20,8 +20,8 @@ put-value-requires-2 c κs =
     let s = put-value'.before.before.before.before.before.before.before.before in
     let k = s.requires.0.0 in
     let m = s.requires.0.1 in
-    let z = pieces-sum s.args.host-src.now s.args.port-src.now s.args.s.now s.args.request s.args.deltas in
-    ((m.port, k.port), (s.requires.1.0.1, omega (arith, s.requires.1.1, z, put-value'.put-value.ensures.place, wrote-length put-value'.put-value.ensures)))
+    let z = pieces_sum s.args.host-src.now s.args.port-src.now s.args.s.now s.args.request s.args.deltas in
+    ((m.port, k.port), (s.requires.1.0.1, omega (arith, s.requires.1.1, z, put-value'.put-value.ensures.place, wrote_length put-value'.put-value.ensures)))
 
 put-row-requires : tie.Need-put-row-requires
 put-row-requires c κs =
@@ -30,8 +30,8 @@ put-row-requires c κs =
     let s = put-value'.before.before.before.before.before.before.before.before in
     let k = s.requires.0.0 in
     let m = s.requires.0.1 in
-    let z = pieces-sum s.args.host-src.now s.args.port-src.now s.args.s.now s.args.request s.args.deltas in
-    (k.path, (m.path, omega (arith, s.requires.1.1, z, put-value'.put-value.ensures.place, wrote-length put-value'.put-value.ensures, put-value2'.put-value2.ensures.place, wrote-length put-value2'.put-value2.ensures)))
+    let z = pieces_sum s.args.host-src.now s.args.port-src.now s.args.s.now s.args.request s.args.deltas in
+    (k.path, (m.path, omega (arith, s.requires.1.1, z, put-value'.put-value.ensures.place, wrote_length put-value'.put-value.ensures, put-value2'.put-value2.ensures.place, wrote_length put-value2'.put-value2.ensures)))
 
 put-row-requires-2 : tie.Need-put-row-requires-2
 put-row-requires-2 c κs =
@@ -41,8 +41,8 @@ put-row-requires-2 c κs =
     let s = put-value'.before.before.before.before.before.before.before.before in
     let k = s.requires.0.0 in
     let m = s.requires.0.1 in
-    let z = pieces-sum s.args.host-src.now s.args.port-src.now s.args.s.now s.args.request s.args.deltas in
-    (k.query, (m.query, omega (arith, s.requires.1.1, z, put-value'.put-value.ensures.place, wrote-length put-value'.put-value.ensures, put-value2'.put-value2.ensures.place, wrote-length put-value2'.put-value2.ensures, put-row'.put-row.ensures.place, wrote-length put-row'.put-row.ensures)))
+    let z = pieces_sum s.args.host-src.now s.args.port-src.now s.args.s.now s.args.request s.args.deltas in
+    (k.query, (m.query, omega (arith, s.requires.1.1, z, put-value'.put-value.ensures.place, wrote_length put-value'.put-value.ensures, put-value2'.put-value2.ensures.place, wrote_length put-value2'.put-value2.ensures, put-row'.put-row.ensures.place, wrote_length put-row'.put-row.ensures)))
 
 returns : tie.Need-returns
 returns c =

@@ -4,9 +4,9 @@ use mathlib.Core.Path.{◌≡◌, refl, ap, ◌∙◌}
 use lib.ListN.{length}
 use Rattle.rules.specs.Bytes.{Bytes}
 use Rattle.put.proofs.Wrote.{wrote_as}
-use Rattle.outcomes.proofs.Answers.{right-full, right-done}
-use Rattle.reader.specs.Answers.{slot_of, hostOf}
-use Rattle.coap_options.specs.Requests.{optionsAt}
+use Rattle.outcomes.proofs.Answers.{right_full, right_done}
+use Rattle.reader.specs.Answers.{slot_of, host_of}
+use Rattle.coap_options.specs.Requests.{options_at}
 use Rattle.coap_options.proofs.Pieces.{Known, known}
 use borrow.Author.Rules.{rules}
 use Rattle.coap_options.proofs.requested.Statement.{statement}
@@ -23,7 +23,7 @@ start d = (host-at d).before.before.before.before.before
 abbrev asked : tie.After-deltas-of → Bytes
 asked d =
     let a = (start d).args in
-    optionsAt a.s.now (hostOf a.host) a.port (slot_of a.path) (slot_of a.query) a.to-address.now a.to-port
+    options_at a.s.now (host_of a.host) a.port (slot_of a.path) (slot_of a.query) a.to-address.now a.to-port
 
 known_at : (d : tie.After-deltas-of)
     → let p = d.before in let g = p.before in let v = g.before.before in let h = host-at d in
@@ -34,7 +34,7 @@ known_at d =
     let p = d.before in
     let g = p.before in
     let a = (start d).args in
-    known _ _ _ _ _ d.deltas-of.ensures (hostOf a.host) a.port (slot_of a.path) (slot_of a.query) a.to-address.now a.to-port
+    known _ _ _ _ _ d.deltas-of.ensures (host_of a.host) a.port (slot_of a.path) (slot_of a.query) a.to-address.now a.to-port
     (host-at d).host-value.ensures g.before.before.port-value.ensures g.segments.ensures
     (p.parameters.ensures a.s.now (start d).requires.1.1.1)
 
@@ -50,7 +50,7 @@ options-length-requires c κs = let k = known_at c in ((start c).requires.0, (k.
 returns : tie.Need-returns
 returns c =
     let o = c.before.before in
-    let u = right-full {room = (start o.before).args.room.now} (asked o.before) refl (omega (arith, c.before.if1.true, long o)) in
+    let u = right_full {room = (start o.before).args.room.now} (asked o.before) refl (omega (arith, c.before.if1.true, long o)) in
     (c.refused.ensures ∙ u.answered, u.holds)
 
 put-options-requires : tie.Need-put-options-requires
@@ -65,7 +65,7 @@ returns-2 c =
     let w = c.before.before in
     let i = w.before.before.before.before in
     let o = i.before in
-    let u = right-done (asked o.before) refl (omega (arith, i.if1.false, long o)) (wrote_as (known_at o.before).pieces w.put-options.ensures) in
+    let u = right_done (asked o.before) refl (omega (arith, i.if1.false, long o)) (wrote_as (known_at o.before).pieces w.put-options.ensures) in
     (u.answered, u.holds)
 
 pub requested-spec : {M : Type 1} → statement M

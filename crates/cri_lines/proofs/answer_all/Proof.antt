@@ -6,18 +6,18 @@ use borrow.Author.Rules.{rules}
 use Rattle.cri_lines.proofs.answer_all.Statement.{statement}
 use Rattle.cri_lines.proofs.answer_all.Tie as tie
 
-abbrev invariant-loop : tie.invariant-loop
-invariant-loop out₀ input₀ turns₀ kept₀ more₀ out input turns kept more = (kept ≤ length input) × (length input ≡ length input₀)
+abbrev invariant_loop : tie.invariant_loop
+invariant_loop out₀ input₀ turns₀ kept₀ more₀ out input turns kept more = (kept ≤ length input) × (length input ≡ length input₀)
 
-abbrev decreases-loop : tie.decreases-loop
-decreases-loop out₀ input₀ turns₀ kept₀ more₀ out input turns kept more = turns
+abbrev decreases_loop : tie.decreases_loop
+decreases_loop out₀ input₀ turns₀ kept₀ more₀ out input turns kept more = turns
 
 pub answer-all-spec : {M : Type 1} → statement M
 answer-all-spec =
     tie.close
     (tie.spec
-    invariant-loop
-    decreases-loop
+    invariant_loop
+    decreases_loop
     (λ c. search rules)
     (λ c κs. search rules)
     (λ c. search rules)

@@ -5,18 +5,18 @@ use borrow.Author.Rules.{rules}
 use Rattle.cri_lines.proofs.answer_lines.Statement.{statement}
 use Rattle.cri_lines.proofs.answer_lines.Tie as tie
 
-abbrev invariant-loop : tie.invariant-loop
-invariant-loop out₀ input kept used₀ at₀ end₀ out used at end = (at ≤ end) × (end ≤ length input)
+abbrev invariant_loop : tie.invariant_loop
+invariant_loop out₀ input kept used₀ at₀ end₀ out used at end = (at ≤ end) × (end ≤ length input)
 
-abbrev decreases-loop : tie.decreases-loop
-decreases-loop out₀ input kept used₀ at₀ end₀ out used at end = length input - end
+abbrev decreases_loop : tie.decreases_loop
+decreases_loop out₀ input kept used₀ at₀ end₀ out used at end = length input - end
 
 pub answer-lines-spec : {M : Type 1} → statement M
 answer-lines-spec =
     tie.close
     (tie.spec
-    invariant-loop
-    decreases-loop
+    invariant_loop
+    decreases_loop
     (λ c κs. search rules)
     (λ c. search rules)
     (λ c. search rules)

@@ -6,18 +6,18 @@ use borrow.Author.Rules.{rules}
 use Rattle.cri_lines.proofs.keep.Statement.{statement}
 use Rattle.cri_lines.proofs.keep.Tie as tie
 
-abbrev invariant-loop : tie.invariant-loop
-invariant-loop input₀ from end n i₀ input i = (i ≤ n) × (from + n ≤ length input) × (length input ≡ length input₀)
+abbrev invariant_loop : tie.invariant_loop
+invariant_loop input₀ from end n i₀ input i = (i ≤ n) × (from + n ≤ length input) × (length input ≡ length input₀)
 
-abbrev decreases-loop : tie.decreases-loop
-decreases-loop input₀ from end n i₀ input i = n - i
+abbrev decreases_loop : tie.decreases_loop
+decreases_loop input₀ from end n i₀ input i = n - i
 
 pub keep_spec : {M : Type 1} → statement M
 keep_spec =
     tie.close
     (tie.spec
-    invariant-loop
-    decreases-loop
+    invariant_loop
+    decreases_loop
     (λ c. search rules)
     (λ c κs. search rules)
     (λ c. search rules)

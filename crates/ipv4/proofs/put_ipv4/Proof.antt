@@ -5,19 +5,19 @@ use mathlib.Core.Path.{◌≡◌, ap, ◌∙◌}
 use lib.ListN.{length, get_or, length-append}
 use Rattle.rules.specs.Bytes.{part, dot}
 use Rattle.rules.specs.Numeral.{decimal}
-use Rattle.rules.specs.Address.{ipv4Text}
+use Rattle.rules.specs.Address.{ipv4_text}
 use Rattle.put.specs.Joined.{further}
 use Rattle.put.proofs.Wrote.{wrote_then}
-use Rattle.ipv4.proofs.Dotted.{ipv4-pieces}
+use Rattle.ipv4.proofs.Dotted.{ipv4_pieces}
 use borrow.Author.Rules.{rules}
 use Rattle.ipv4.proofs.put_ipv4.Statement.{statement}
 use Rattle.ipv4.proofs.put_ipv4.Tie as tie
 
 lengths : (s : tie.Start) → let a = s.args in
-    length (ipv4Text (part a.src.now a.from 4)) ≡ length (decimal (get_or a.src.now a.from 0)) + length (further dot decimal (part a.src.now (a.from + 1) 3))
+    length (ipv4_text (part a.src.now a.from 4)) ≡ length (decimal (get_or a.src.now a.from 0)) + length (further dot decimal (part a.src.now (a.from + 1) 3))
 lengths s =
     let a = s.args in
-    ap length (ipv4-pieces a.src.now a.from s.requires.0) ∙ length-append (decimal (get_or a.src.now a.from 0)) (further dot decimal (part a.src.now (a.from + 1) 3))
+    ap length (ipv4_pieces a.src.now a.from s.requires.0) ∙ length-append (decimal (get_or a.src.now a.from 0)) (further dot decimal (part a.src.now (a.from + 1) 3))
 
 cast-b : tie.Need-overflow-cast-b
 cast-b c = omega (arith, c.shared-slice-known2.given c.before.before.before.args.from)
@@ -33,7 +33,7 @@ returns c =
     let f = c.before.before in
     let d = f.before.before.before.before in
     let s = d.before.before.before.before.before in
-    rw (ipv4-pieces s.args.src.now s.args.from s.requires.0) (wrote_then d.put-decimal.ensures f.put-further-octets.ensures)
+    rw (ipv4_pieces s.args.src.now s.args.from s.requires.0) (wrote_then d.put-decimal.ensures f.put-further-octets.ensures)
 
 pub put-ipv4-spec : {M : Type 1} → statement M
 put-ipv4-spec =

@@ -2,13 +2,13 @@
 use native.Mathlib.Omega.{arith}
 use mathlib.Core.Path.{sym, ap, ◌∙◌}
 use lib.ListN.{length}
-use Rattle.ipv6.proofs.GroupTexts.{HexText, hex-text}
+use Rattle.ipv6.proofs.GroupTexts.{HexText, hex_text_lem}
 use borrow.Author.Rules.{rules}
 use Rattle.ipv6.proofs.hex_text_length.Statement.{statement}
 use Rattle.ipv6.proofs.hex_text_length.Tie as tie
 
 text : (s : tie.Start) → HexText s.args.src.now s.args.from s.args.run
-text s = hex-text _ _ _ s.requires.0 s.requires.1
+text s = hex_text_lem _ _ _ s.requires.0 s.requires.1
 
 returns : tie.Need-returns
 returns c =

@@ -5,8 +5,8 @@ use lib.ListN.{length, get_or}
 use lib.Dec.{eqb}
 use Rattle.rules.specs.Bytes.{Bytes, Octets, part}
 use Rattle.rules.specs.Address.{groups, mapped}
-use Rattle.rules.proofs.Tools.{octets-of, octets-part, length_part}
-use Rattle.ipv6.proofs.Mapped.{mapped-five, mapped-not}
+use Rattle.rules.proofs.Tools.{octets_of, octets_part, length_part}
+use Rattle.ipv6.proofs.Mapped.{mapped_five, mapped_not}
 use borrow.Author.Rules.{rules}
 use Rattle.ipv6.proofs.is_mapped.Statement.{statement}
 use Rattle.ipv6.proofs.is_mapped.Tie as tie
@@ -22,13 +22,13 @@ module _ (k : tie.After-shared-slice-known) where
   sixteen = length_part start.args.src.now start.args.from 16 start.pre.0
 
   octets : Octets bytes
-  octets = octets-part start.args.src.now start.args.from 16 (octets-of start.args.src.now (λ i. (k.shared-slice-known.given i).fits))
+  octets = octets_part start.args.src.now start.args.from 16 (octets_of start.args.src.now (λ i. (k.shared-slice-known.given i).fits))
 
   five : get_or (groups bytes) 5 0 ≡ 0xffff → start.args.run.at ≡ 0 → eqb start.args.run.size 5 ≡ mapped bytes
-  five = mapped-five bytes sixteen octets start.args.run start.pre.1
+  five = mapped_five bytes sixteen octets start.args.run start.pre.1
 
   other : ((get_or (groups bytes) 5 0 ≡ 0xffff) × (start.args.run.at ≡ 0) → ⊥) → false ≡ mapped bytes
-  other = mapped-not bytes sixteen octets start.args.run start.pre.1
+  other = mapped_not bytes sixteen octets start.args.run start.pre.1
 
 returns : tie.Need-returns
 returns c =

@@ -3,13 +3,13 @@ use native.Mathlib.Omega.{arith}
 use mathlib.Core.Path.{ap}
 use lib.ListN.{length}
 use Rattle.put.proofs.Wrote.{wrote_then}
-use Rattle.ipv6.proofs.GroupTexts.{HexText, hex-text}
+use Rattle.ipv6.proofs.GroupTexts.{HexText, hex_text_lem}
 use borrow.Author.Rules.{rules}
 use Rattle.ipv6.proofs.put_hex_text.Statement.{statement}
 use Rattle.ipv6.proofs.put_hex_text.Tie as tie
 
 text : (s : tie.Start) → HexText s.args.src.now s.args.from s.args.run
-text s = hex-text _ _ _ s.requires.0 s.requires.1.0
+text s = hex_text_lem _ _ _ s.requires.0 s.requires.1.0
 
 put-groups-requires : tie.Need-put-groups-requires
 put-groups-requires c κs =

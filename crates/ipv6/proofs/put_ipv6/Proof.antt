@@ -5,31 +5,31 @@ use mathlib.Core.Path.{◌≡◌, sym, ap, ◌∙◌}
 use mathlib.Core.List.{◌++◌}
 use lib.ListN.{length}
 use Rattle.rules.specs.Bytes.{ascii, part}
-use Rattle.rules.specs.Address.{ipv4Text, hexText, ipv6Text}
+use Rattle.rules.specs.Address.{ipv4_text, hex_text, ipv6_text}
 use Rattle.put.proofs.Wrote.{wrote_then}
-use Rattle.ipv6.proofs.Mapped.{mixed-form, hex-form}
+use Rattle.ipv6.proofs.Mapped.{mixed_form, hex_form}
 use borrow.Author.Rules.{rules}
 use Rattle.ipv6.proofs.put_ipv6.Statement.{statement}
 use Rattle.ipv6.proofs.put_ipv6.Tie as tie
 
 -- where the address is IPv4-mapped, and where not
 mixed : (c : tie.Then1) → let s = c.before.before.before.before.before in
-    ipv6Text (part s.args.src.now s.args.from 16) ≡ ascii "::ffff:" ++ ipv4Text (part s.args.src.now (s.args.from + 12) 4)
+    ipv6_text (part s.args.src.now s.args.from 16) ≡ ascii "::ffff:" ++ ipv4_text (part s.args.src.now (s.args.from + 12) 4)
 mixed c =
     let s = c.before.before.before.before.before in
-    mixed-form s.args.src.now s.args.from s.requires.0 (sym c.before.is_mapped.ensures ∙ c.if1.true)
+    mixed_form s.args.src.now s.args.from s.requires.0 (sym c.before.is_mapped.ensures ∙ c.if1.true)
 
 hexed : (c : tie.Else1) → let s = c.before.before.before.before.before in
-    ipv6Text (part s.args.src.now s.args.from 16) ≡ hexText (part s.args.src.now s.args.from 16)
+    ipv6_text (part s.args.src.now s.args.from 16) ≡ hex_text (part s.args.src.now s.args.from 16)
 hexed c =
     let s = c.before.before.before.before.before in
-    hex-form s.args.src.now s.args.from s.requires.0 (sym c.before.is_mapped.ensures ∙ c.if1.false)
+    hex_form s.args.src.now s.args.from s.requires.0 (sym c.before.is_mapped.ensures ∙ c.if1.false)
 
 put-bytes-requires : tie.Need-put-bytes-requires
 put-bytes-requires c κs = omega (arith, ap length (mixed c.before.before))
 
-put-ipv4-requires : tie.Need-put-ipv4-requires
-put-ipv4-requires c κs =
+put_ipv4_requires : tie.Need-put-ipv4-requires
+put_ipv4_requires c κs =
     let m = c.before.before.before.before.before.before in
     (omega arith, omega (arith, ap length (mixed m)))
 
@@ -48,8 +48,8 @@ put-hex-text-requires c κs =
 returns-2 : tie.Need-returns-2
 returns-2 c = let h = c.before.before in rw (hexed h.before.before) h.put-hex-text.ensures
 
-pub put-ipv6-spec : {M : Type 1} → statement M
-put-ipv6-spec =
+pub put_ipv6_spec : {M : Type 1} → statement M
+put_ipv6_spec =
     tie.close
     (tie.spec
     (λ c κs. search rules)
@@ -57,7 +57,7 @@ put-ipv6-spec =
     (λ c. search rules)
     put-bytes-requires
     (λ c. search rules)
-    put-ipv4-requires
+    put_ipv4_requires
     (λ c. search rules)
     returns
     put-hex-text-requires

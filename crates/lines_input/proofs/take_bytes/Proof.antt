@@ -2,7 +2,7 @@
 use native.Mathlib.Omega.{arith}
 use mathlib.Core.Path.{sym, ◌∙◌}
 use Rattle.io.proofs.Counting.{prefix_len_of_le}
-use Rattle.words.proofs.Words.{hex-within}
+use Rattle.words.proofs.Words.{hex_within}
 use borrow.Author.Rules.{rules}
 use Rattle.lines_input.proofs.take_bytes.Statement.{statement}
 use Rattle.lines_input.proofs.take_bytes.Tie as tie
@@ -13,7 +13,7 @@ same_length c = search rules
 returns : tie.Need-returns
 returns c =
     let p = c.before.before.before.before.before in
-    let h = hex-within _ _ _ (sym c.before.n.given.1 ∙ p.hex-bytes.ensures.0) in
+    let h = hex_within _ _ _ (sym c.before.n.given.1 ∙ p.hex-bytes.ensures.0) in
     prefix_len_of_le _ _ (omega (arith, h, same_length c))
 
 returns-2 : tie.Need-returns-2

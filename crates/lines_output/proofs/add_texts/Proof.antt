@@ -4,18 +4,18 @@ use borrow.Author.Rules.{rules}
 use Rattle.lines_output.proofs.add_texts.Statement.{statement}
 use Rattle.lines_output.proofs.add_texts.Tie as tie
 
-abbrev invariant-loop : tie.invariant-loop
-invariant-loop out₀ used s spans first count name from n at₀ i₀ out at i = i ≤ n
+abbrev invariant_loop : tie.invariant_loop
+invariant_loop out₀ used s spans first count name from n at₀ i₀ out at i = i ≤ n
 
-abbrev decreases-loop : tie.decreases-loop
-decreases-loop out₀ used s spans first count name from n at₀ i₀ out at i = n - i
+abbrev decreases_loop : tie.decreases_loop
+decreases_loop out₀ used s spans first count name from n at₀ i₀ out at i = n - i
 
 pub add-texts-spec : {M : Type 1} → statement M
 add-texts-spec =
     tie.close
     (tie.spec
-    invariant-loop
-    decreases-loop
+    invariant_loop
+    decreases_loop
     (λ c κs. search rules)
     (λ c κs. search rules)
     (λ c. search rules)

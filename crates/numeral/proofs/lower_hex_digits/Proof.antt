@@ -1,13 +1,13 @@
 -- `numeral::lower_hex_digits` meets its contract: each digit is tested.
 use mathlib.Core.Path.{refl}
-use Rattle.rules.specs.Numeral.{digitByte}
+use Rattle.rules.specs.Numeral.{digit_byte}
 use Rattle.put.proofs.Tables.{entries_by}
 use Rattle.numeral.proofs.lower_hex_digits.Statement.{statement}
 use Rattle.numeral.proofs.lower_hex_digits.Tie as tie
 
 returns : tie.Need-returns
-unfolding digitByte
-returns c = entries_by 16 digitByte _ refl
+unfolding digit_byte
+returns c = entries_by 16 digit_byte _ refl
 
 pub lower-hex-digits-spec : {M : Type 1} → statement M
 lower-hex-digits-spec = tie.close (tie.spec returns)

@@ -3,32 +3,32 @@ use Prim.Native.Nat.{◌%◌}
 use native.Mathlib.Omega.{arith}
 use Rattle.put.proofs.Wrote.{wrote_then}
 use Rattle.numeral.specs.Scales.{scaled}
-use Rattle.numeral.proofs.Scales.{decimal-scaled, length-decimal, digit-small}
+use Rattle.numeral.proofs.Scales.{decimal_scaled, length_decimal, digit_small}
 use borrow.Author.Rules.{rules}
 use Rattle.numeral.proofs.put_decimal.Statement.{statement}
 use Rattle.numeral.proofs.put_decimal.Tie as tie
 
 put-decimal-digit-requires : tie.Need-put-decimal-digit-requires
 put-decimal-digit-requires c κs =
-    let s = c.before.before in omega (arith, length-decimal s.args.n s.ranges.n.fits)
+    let s = c.before.before in omega (arith, length_decimal s.args.n s.ranges.n.fits)
 
 put-decimal-digit-requires-2 : tie.Need-put-decimal-digit-requires-2
 put-decimal-digit-requires-2 c κs =
-    let s = c.before.before.before.before.before.before in omega (arith, length-decimal s.args.n s.ranges.n.fits)
+    let s = c.before.before.before.before.before.before in omega (arith, length_decimal s.args.n s.ranges.n.fits)
 
 put-decimal-digit-requires-3 : tie.Need-put-decimal-digit-requires-3
 put-decimal-digit-requires-3 c κs =
-    let s = c.before.before.before.before.before.before.before.before.before.before in omega (arith, length-decimal s.args.n s.ranges.n.fits)
+    let s = c.before.before.before.before.before.before.before.before.before.before in omega (arith, length_decimal s.args.n s.ranges.n.fits)
 
 put-decimal-digit-requires-4 : tie.Need-put-decimal-digit-requires-4
 put-decimal-digit-requires-4 c κs =
     let s = c.before.before.before.before.before.before.before.before.before.before.before.before.before.before in
-    omega (arith, length-decimal s.args.n s.ranges.n.fits)
+    omega (arith, length_decimal s.args.n s.ranges.n.fits)
 
 put-byte-requires : tie.Need-put-byte-requires
 put-byte-requires c κs =
     let s = c.before.before.before.before.before.before.before.before.before.before.before.before.before.before.before.before.before.before in
-    omega (arith, length-decimal s.args.n s.ranges.n.fits)
+    omega (arith, length_decimal s.args.n s.ranges.n.fits)
 
 returns : tie.Need-returns
 unfolding scaled
@@ -40,7 +40,7 @@ returns c =
     let c1 = c2.before.before.before.before in
     let s = c1.before.before.before in
     let n = s.args.n in
-    rw (decimal-scaled n s.ranges.n.fits, digit-small (n % 10) (omega arith))
+    rw (decimal_scaled n s.ranges.n.fits, digit_small (n % 10) (omega arith))
     (wrote_then c1.put-decimal-digit.ensures (wrote_then c2.put-decimal-digit2.ensures (wrote_then c3.put-decimal-digit3.ensures (wrote_then c4.put-decimal-digit4.ensures c5.put_byte.ensures))))
 
 pub put-decimal-spec : {M : Type 1} → statement M

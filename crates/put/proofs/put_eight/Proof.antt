@@ -8,7 +8,7 @@ use mir.Val.{Fits}
 use lib.Dec.{lit<}
 use lib.ListN.{length, set, get_or, length-set}
 use Rattle.rules.specs.Bytes.{Bytes}
-use Rattle.put.proofs.Wrote.{wrote_as, wrote-eight, part-eight}
+use Rattle.put.proofs.Wrote.{wrote_as, wrote_eight, part_eight}
 use Rattle.put.proofs.put_eight.Statement.{statement}
 use Rattle.put.proofs.put_eight.Tie as tie
 use Rattle.put.proofs.put_eight.Reads as reads
@@ -87,8 +87,8 @@ slice-write-room c = omega (arith, c.before.before.before.before.before.before.b
 add-room : tie.Need-overflow-add-room
 add-room c = writes-fits c.before.before.before.before.before.before.before.before 1 (lit< tt)
 
-slice-write-room-2 : tie.Need-slice-write-room-2
-slice-write-room-2 c = writes_at c.before.before.before.before.before.before.before.before 0 (lit< tt)
+slice_write_room_2 : tie.Need-slice-write-room-2
+slice_write_room_2 c = writes_at c.before.before.before.before.before.before.before.before 0 (lit< tt)
 
 add-room-2 : tie.Need-overflow-add-room-2
 add-room-2 c = writes-fits c.before.before.before.before.before.before.before.before 2 (lit< tt)
@@ -135,7 +135,7 @@ same_length c =
     stored-length start.args.room.now start.args.src.now start.args.at start.args.from 7
 
 returns : tie.Need-returns
-returns c = wrote_as (part-eight _ _ c.before.before.before.before.before.before.before.before.requires.0) wrote-eight
+returns c = wrote_as (part_eight _ _ c.before.before.before.before.before.before.before.before.requires.0) wrote_eight
 
 pub put-eight-spec : {M : Type 1} → statement M
 put-eight-spec =
@@ -158,7 +158,7 @@ put-eight-spec =
     shared-slice-read-h
     slice-write-room
     add-room
-    slice-write-room-2
+    slice_write_room_2
     add-room-2
     slice-write-room-3
     add-room-3

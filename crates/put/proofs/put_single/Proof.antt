@@ -6,54 +6,54 @@ use mathlib.Core.List.{[], ◌∷◌}
 use lib.ListN.{get_or}
 use Rattle.rules.specs.Bytes.{part}
 use Rattle.rules.proofs.Tools.{length_part}
-use Rattle.put.proofs.Wrote.{Left, Next, left-whole, next, next-room, next-wrote, last, wrote_one}
+use Rattle.put.proofs.Wrote.{Left, Next, left_whole, next, next_room, next_wrote, last, wrote_one}
 use Rattle.put.proofs.put_single.Statement.{statement}
 use Rattle.put.proofs.put_single.Tie as tie
 
-abbrev invariant-loop : tie.invariant-loop
-invariant-loop room₀ at src from n end i₀ o₀ room i o = (i ≤ end) × Left room o (part src i (end - i)) room₀ at (part src from n)
+abbrev invariant_loop : tie.invariant_loop
+invariant_loop room₀ at src from n end i₀ o₀ room i o = (i ≤ end) × Left room o (part src i (end - i)) room₀ at (part src from n)
 
-abbrev decreases-loop : tie.decreases-loop
-decreases-loop room₀ at src from n end i₀ o₀ room i o = end - i
+abbrev decreases_loop : tie.decreases_loop
+decreases_loop room₀ at src from n end i₀ o₀ room i o = end - i
 
-add-end : tie.Need-overflow-add-end invariant-loop decreases-loop
+add-end : tie.Need-overflow-add-end invariant_loop decreases_loop
 add-end c = omega arith
 
-loop-holds : tie.Need-loop-init invariant-loop decreases-loop
-loop-holds c = let a = c.args in (omega arith, left-whole (λ s. s) a.src.now a.from a.n)
+loop-holds : tie.Need-loop-init invariant_loop decreases_loop
+loop-holds c = let a = c.args in (omega arith, left_whole (λ s. s) a.src.now a.from a.n)
 
 -- the byte at i, and what is left after it
-turn : (t : tie.In-loop invariant-loop decreases-loop) → let l = t.before.loop in let a = t.before.before.args in
+turn : (t : tie.In-loop invariant_loop decreases_loop) → let l = t.before.loop in let a = t.before.before.args in
     Next l.room l.o (get_or a.src.now l.i 0 ∷ []) (part a.src.now (l.i + 1) (a.from + a.n - (l.i + 1))) a.room.now a.at (part a.src.now a.from a.n)
 turn t =
     let l = t.before.loop in
     let s = t.before.before in
     next (λ s. s) (λ x. x ∷ []) (λ x xs. refl) refl s.args.src.now l.i (s.args.from + s.args.n) t.loop-test.true s.requires.0 l.invariant.1
 
-shared-slice-read-room : tie.Need-shared-slice-read-room invariant-loop decreases-loop
+shared-slice-read-room : tie.Need-shared-slice-read-room invariant_loop decreases_loop
 shared-slice-read-room c = omega arith
 
-slice-write-room : tie.Need-slice-write-room invariant-loop decreases-loop
+slice-write-room : tie.Need-slice-write-room invariant_loop decreases_loop
 slice-write-room c =
     let s = c.before.before.before in
-    omega (arith, next-room (turn c.before) (omega (arith, length_part s.args.src.now s.args.from s.args.n s.requires.0)))
+    omega (arith, next_room (turn c.before) (omega (arith, length_part s.args.src.now s.args.from s.args.n s.requires.0)))
 
-add-o : tie.Need-overflow-add-o invariant-loop decreases-loop
+add-o : tie.Need-overflow-add-o invariant_loop decreases_loop
 add-o c = omega (arith, slice-write-room c)
 
-add-i : tie.Need-overflow-add-i invariant-loop decreases-loop
+add-i : tie.Need-overflow-add-i invariant_loop decreases_loop
 add-i c = omega arith
 
-loop-less : tie.Need-loop-smaller invariant-loop decreases-loop
+loop-less : tie.Need-loop-smaller invariant_loop decreases_loop
 loop-less c = omega arith
 
-loop-again : tie.Need-loop-preserved invariant-loop decreases-loop
-loop-again c = (omega arith, next-wrote (turn c.before) wrote_one)
+loop-again : tie.Need-loop-preserved invariant_loop decreases_loop
+loop-again c = (omega arith, next_wrote (turn c.before) wrote_one)
 
-same_length : tie.Need-same-length invariant-loop decreases-loop
+same_length : tie.Need-same-length invariant_loop decreases_loop
 same_length c = c.before.loop.invariant.1.size
 
-returns : tie.Need-returns invariant-loop decreases-loop
+returns : tie.Need-returns invariant_loop decreases_loop
 returns c =
     let a = c.before.before.args in
     last (λ s. s) (λ x. x ∷ []) (λ x xs. refl) refl a.src.now c.before.loop.i (a.from + a.n) c.loop-test.false c.before.loop.invariant.1
@@ -61,4 +61,4 @@ returns c =
 pub put-single-spec : {M : Type 1} → statement M
 put-single-spec =
     tie.close
-    (tie.spec invariant-loop decreases-loop add-end loop-holds shared-slice-read-room slice-write-room add-o add-i loop-less loop-again same_length returns)
+    (tie.spec invariant_loop decreases_loop add-end loop-holds shared-slice-read-room slice-write-room add-o add-i loop-less loop-again same_length returns)

@@ -4,8 +4,8 @@ use mathlib.Core.List.{[], ◌∷◌}
 use mathlib.Core.Path.{refl, ◌∙◌}
 use mathlib.Core.Bool.{◌||◌}
 use Rattle.rules.specs.Head.{Array, Null, code_of, is}
-use Rattle.cbor.proofs.Heads.{same-kinds}
-use Rattle.reader.proofs.ItemAnswers.{Read, allowed, item-is, no_other}
+use Rattle.cbor.proofs.Heads.{same_kinds}
+use Rattle.reader.proofs.ItemAnswers.{Read, allowed, item_is_lem, no_other}
 use Rattle.reader.proofs.ReaderCases as cases
 use borrow.Author.Rules.{rules}
 use Rattle.reader.proofs.array_at.Statement.{statement}
@@ -14,23 +14,23 @@ use Rattle.reader.proofs.array_at.Tie as tie
 -- what was read here
 item : (c : tie.After-item-at) → let a = c.before.before.before.args in Read (λ k. is Array k || is Null k) a.s.now a.at c.item-at.result
 unfolding code_of
-item c = allowed (same-kinds _ _ refl refl refl refl refl refl refl refl) c.item-at.ensures
+item c = allowed (same_kinds _ _ refl refl refl refl refl refl refl refl) c.item-at.ensures
 
 returns : tie.Need-returns
-returns c = cases.array-none _ _ _ _ _ _ c.if1.true
+returns c = cases.array_none _ _ _ _ _ _ c.if1.true
 
 returns-2 : tie.Need-returns-2
 returns-2 c =
-    c.array-body.ensures
-    ∙ cases.array-body _ _ _ _ _ _ (omega arith) _ _ (item-is (item c.before.before.before.before) c.before.before.n.given.1)
+    c.array_body_lem.ensures
+    ∙ cases.array_body_lem _ _ _ _ _ _ (omega arith) _ _ (item_is_lem (item c.before.before.before.before) c.before.before.n.given.1)
 
 returns-3 : tie.Need-returns-3
 returns-3 c =
     c.null-body.ensures
-    ∙ cases.array-null _ _ _ _ _ _ (omega arith) _ (item-is (item c.before.before.before.before) c.before.before.next.given.1)
+    ∙ cases.array_null _ _ _ _ _ _ (omega arith) _ (item_is_lem (item c.before.before.before.before) c.before.before.next.given.1)
 
 returns-4 : tie.Need-returns-4
-returns-4 c = cases.array-refused _ _ _ _ _ _ (omega arith) _ (item-is (item c.before.before.before) c.before.n2.given.1)
+returns-4 c = cases.array_refused _ _ _ _ _ _ (omega arith) _ (item_is_lem (item c.before.before.before) c.before.n2.given.1)
 
 returns-5 : tie.Need-returns-5
 unfolding code_of

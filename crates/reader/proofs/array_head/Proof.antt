@@ -2,8 +2,8 @@
 use mathlib.Core.List.{[], ◌∷◌}
 use mathlib.Core.Path.{refl}
 use Rattle.rules.specs.Head.{Array, code_of, is}
-use Rattle.cbor.proofs.Heads.{same-kinds}
-use Rattle.reader.proofs.ItemAnswers.{Read, allowed, item-is, no_other}
+use Rattle.cbor.proofs.Heads.{same_kinds}
+use Rattle.reader.proofs.ItemAnswers.{Read, allowed, item_is_lem, no_other}
 use borrow.Author.Rules.{rules}
 use Rattle.reader.proofs.array_head.Statement.{statement}
 use Rattle.reader.proofs.array_head.Tie as tie
@@ -11,13 +11,13 @@ use Rattle.reader.proofs.array_head.Tie as tie
 -- what was read here
 item : (c : tie.After-item-at) → let a = c.before.before.args in Read (is Array) a.s.now a.at c.item-at.result
 unfolding code_of
-item c = allowed (same-kinds _ _ refl refl refl refl refl refl refl refl) c.item-at.ensures
+item c = allowed (same_kinds _ _ refl refl refl refl refl refl refl refl) c.item-at.ensures
 
 returns : tie.Need-returns
-returns c = item-is (item c.before.before.before) c.before.n.given.1
+returns c = item_is_lem (item c.before.before.before) c.before.n.given.1
 
 returns-2 : tie.Need-returns-2
-returns-2 c = item-is (item c.before.before.before) c.before.n2.given.1
+returns-2 c = item_is_lem (item c.before.before.before) c.before.n2.given.1
 
 returns-3 : tie.Need-returns-3
 unfolding code_of

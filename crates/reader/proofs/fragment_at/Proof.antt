@@ -4,8 +4,8 @@ use mathlib.Core.List.{[], ◌∷◌}
 use mathlib.Core.Path.{refl, ◌∙◌}
 use mathlib.Core.Bool.{◌||◌}
 use Rattle.rules.specs.Head.{Text, Null, code_of, is}
-use Rattle.cbor.proofs.Heads.{head-accepted, same-kinds}
-use Rattle.reader.proofs.ItemAnswers.{Read, allowed, item-is, no_other}
+use Rattle.cbor.proofs.Heads.{head_accepted, same_kinds}
+use Rattle.reader.proofs.ItemAnswers.{Read, allowed, item_is_lem, no_other}
 use Rattle.reader.proofs.ReaderCases as cases
 use borrow.Author.Rules.{rules}
 use Rattle.reader.proofs.fragment_at.Statement.{statement}
@@ -14,26 +14,26 @@ use Rattle.reader.proofs.fragment_at.Tie as tie
 -- what was read here
 item : (c : tie.After-item-at) → let a = c.before.before.before.args in Read (λ k. is Text k || is Null k) a.s.now a.at c.item-at.result
 unfolding code_of
-item c = allowed (same-kinds _ _ refl refl refl refl refl refl refl refl) c.item-at.ensures
+item c = allowed (same_kinds _ _ refl refl refl refl refl refl refl refl) c.item-at.ensures
 
 returns : tie.Need-returns
-returns c = cases.fragment-none _ _ _ c.if1.true
+returns c = cases.fragment_none _ _ _ c.if1.true
 
 fragment-body-requires : tie.Need-fragment-body-requires
-fragment-body-requires c κs = (head-accepted (item-is (item c.before.before.before) c.before.n.given.1)).inside
+fragment-body-requires c κs = (head_accepted (item_is_lem (item c.before.before.before) c.before.n.given.1)).inside
 
 returns-2 : tie.Need-returns-2
 returns-2 c =
-    c.fragment-body.ensures
-    ∙ cases.fragment-body _ _ _ (omega arith) _ _ (item-is (item c.before.before.before.before) c.before.before.n.given.1)
+    c.fragment_body_lem.ensures
+    ∙ cases.fragment_body_lem _ _ _ (omega arith) _ _ (item_is_lem (item c.before.before.before.before) c.before.before.n.given.1)
 
 returns-3 : tie.Need-returns-3
 returns-3 c =
     c.null-body.ensures
-    ∙ cases.fragment-null _ _ _ (omega arith) _ (item-is (item c.before.before.before.before) c.before.before.next.given.1)
+    ∙ cases.fragment_null _ _ _ (omega arith) _ (item_is_lem (item c.before.before.before.before) c.before.before.next.given.1)
 
 returns-4 : tie.Need-returns-4
-returns-4 c = cases.fragment-refused _ _ _ (omega arith) _ (item-is (item c.before.before.before) c.before.n2.given.1)
+returns-4 c = cases.fragment_refused _ _ _ (omega arith) _ (item_is_lem (item c.before.before.before) c.before.n2.given.1)
 
 returns-5 : tie.Need-returns-5
 unfolding code_of

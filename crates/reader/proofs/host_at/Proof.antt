@@ -4,8 +4,8 @@ use mathlib.Core.List.{[], ◌∷◌}
 use mathlib.Core.Path.{refl, ◌∙◌}
 use mathlib.Core.Bool.{◌||◌}
 use Rattle.rules.specs.Head.{ByteString, Text, code_of, is}
-use Rattle.cbor.proofs.Heads.{head-accepted, same-kinds}
-use Rattle.reader.proofs.ItemAnswers.{Read, allowed, item-is, no_other}
+use Rattle.cbor.proofs.Heads.{head_accepted, same_kinds}
+use Rattle.reader.proofs.ItemAnswers.{Read, allowed, item_is_lem, no_other}
 use Rattle.reader.proofs.ReaderCases as cases
 use borrow.Author.Rules.{rules}
 use Rattle.reader.proofs.host_at.Statement.{statement}
@@ -14,26 +14,26 @@ use Rattle.reader.proofs.host_at.Tie as tie
 -- what was read here
 item : (c : tie.After-item-at) → let a = c.before.before.args in Read (λ k. is ByteString k || is Text k) a.s.now a.at c.item-at.result
 unfolding code_of
-item c = allowed (same-kinds _ _ refl refl refl refl refl refl refl refl) c.item-at.ensures
+item c = allowed (same_kinds _ _ refl refl refl refl refl refl refl refl) c.item-at.ensures
 
 address-host-requires : tie.Need-address-host-requires
-address-host-requires c κs = (head-accepted (item-is (item c.before.before.before) c.before.n.given.1)).inside
+address-host-requires c κs = (head_accepted (item_is_lem (item c.before.before.before) c.before.n.given.1)).inside
 
 labels-host-requires : tie.Need-labels-host-requires
-labels-host-requires c κs = (omega arith, item-is (item c.before.before.before) c.before.n2.given.1)
+labels-host-requires c κs = (omega arith, item_is_lem (item c.before.before.before) c.before.n2.given.1)
 
 returns : tie.Need-returns
 returns c =
     c.address-host.ensures
-    ∙ cases.host-address _ _ _ _ _ _ (item-is (item c.before.before.before.before) c.before.before.n.given.1)
+    ∙ cases.host_address _ _ _ _ _ _ (item_is_lem (item c.before.before.before.before) c.before.before.n.given.1)
 
 returns-2 : tie.Need-returns-2
 returns-2 c =
-    c.labels-host.ensures
-    ∙ cases.host-labels _ _ _ _ _ _ (item-is (item c.before.before.before.before) c.before.before.n2.given.1)
+    c.labels_host_lem.ensures
+    ∙ cases.host_labels _ _ _ _ _ _ (item_is_lem (item c.before.before.before.before) c.before.before.n2.given.1)
 
 returns-3 : tie.Need-returns-3
-returns-3 c = cases.host-refused _ _ _ _ _ (item-is (item c.before.before.before) c.before.n3.given.1)
+returns-3 c = cases.host_refused _ _ _ _ _ (item_is_lem (item c.before.before.before) c.before.n3.given.1)
 
 returns-4 : tie.Need-returns-4
 unfolding code_of

@@ -3,8 +3,8 @@ use native.Mathlib.Omega.{arith}
 use mathlib.Core.List.{[], ◌∷◌}
 use mathlib.Core.Path.{refl, ◌∙◌}
 use Rattle.rules.specs.Head.{Number, code_of, is}
-use Rattle.cbor.proofs.Heads.{same-kinds}
-use Rattle.reader.proofs.ItemAnswers.{Read, allowed, item-is, no_other}
+use Rattle.cbor.proofs.Heads.{same_kinds}
+use Rattle.reader.proofs.ItemAnswers.{Read, allowed, item_is_lem, no_other}
 use Rattle.reader.proofs.ReaderCases as cases
 use borrow.Author.Rules.{rules}
 use Rattle.reader.proofs.port_at.Statement.{statement}
@@ -13,18 +13,18 @@ use Rattle.reader.proofs.port_at.Tie as tie
 -- what was read here
 item : (c : tie.After-item-at) → let a = c.before.before.before.args in Read (is Number) a.s.now a.at c.item-at.result
 unfolding code_of
-item c = allowed (same-kinds _ _ refl refl refl refl refl refl refl refl) c.item-at.ensures
+item c = allowed (same_kinds _ _ refl refl refl refl refl refl refl refl) c.item-at.ensures
 
 returns : tie.Need-returns
-returns c = cases.port-none _ _ _ c.if1.true
+returns c = cases.port_none _ _ _ c.if1.true
 
 returns-2 : tie.Need-returns-2
 returns-2 c =
-    c.port-body.ensures
-    ∙ cases.port-body _ _ _ (omega arith) _ _ (item-is (item c.before.before.before.before) c.before.before.n.given.1)
+    c.port_body_lem.ensures
+    ∙ cases.port_body_lem _ _ _ (omega arith) _ _ (item_is_lem (item c.before.before.before.before) c.before.before.n.given.1)
 
 returns-3 : tie.Need-returns-3
-returns-3 c = cases.port-refused _ _ _ (omega arith) _ (item-is (item c.before.before.before) c.before.n2.given.1)
+returns-3 c = cases.port_refused _ _ _ (omega arith) _ (item_is_lem (item c.before.before.before) c.before.n2.given.1)
 
 returns-4 : tie.Need-returns-4
 unfolding code_of

@@ -2,9 +2,9 @@
 use mathlib.Core.List.{[], ◌∷◌}
 use mathlib.Core.Path.{refl, ◌∙◌}
 use Rattle.rules.specs.Head.{Text, code_of, is}
-use Rattle.cbor.proofs.Heads.{head-accepted, same-kinds}
-use Rattle.reader.proofs.ItemAnswers.{Read, allowed, item-is, no_other}
-use Rattle.reader.proofs.ReaderCases.{text-body, text-refused}
+use Rattle.cbor.proofs.Heads.{head_accepted, same_kinds}
+use Rattle.reader.proofs.ItemAnswers.{Read, allowed, item_is_lem, no_other}
+use Rattle.reader.proofs.ReaderCases.{text_body_lem, text_refused}
 use borrow.Author.Rules.{rules}
 use Rattle.reader.proofs.text_at.Statement.{statement}
 use Rattle.reader.proofs.text_at.Tie as tie
@@ -12,18 +12,18 @@ use Rattle.reader.proofs.text_at.Tie as tie
 -- what was read here
 item : (c : tie.After-item-at) → let a = c.before.before.args in Read (is Text) a.s.now a.at c.item-at.result
 unfolding code_of
-item c = allowed (same-kinds _ _ refl refl refl refl refl refl refl refl) c.item-at.ensures
+item c = allowed (same_kinds _ _ refl refl refl refl refl refl refl refl) c.item-at.ensures
 
 text-body-requires : tie.Need-text-body-requires
-text-body-requires c κs = (head-accepted (item-is (item c.before.before.before) c.before.n.given.1)).inside
+text-body-requires c κs = (head_accepted (item_is_lem (item c.before.before.before) c.before.n.given.1)).inside
 
 returns : tie.Need-returns
 returns c =
-    c.text-body.ensures Text _
-    ∙ text-body _ _ _ _ _ (item-is (item c.before.before.before.before) c.before.before.n.given.1)
+    c.text_body_lem.ensures Text _
+    ∙ text_body_lem _ _ _ _ _ (item_is_lem (item c.before.before.before.before) c.before.before.n.given.1)
 
 returns-2 : tie.Need-returns-2
-returns-2 c = text-refused _ _ _ _ (item-is (item c.before.before.before) c.before.n2.given.1)
+returns-2 c = text_refused _ _ _ _ (item_is_lem (item c.before.before.before) c.before.n2.given.1)
 
 returns-3 : tie.Need-returns-3
 unfolding code_of

@@ -1,10 +1,10 @@
 -- `resolver::put_parts` meets its contract.
 use native.Mathlib.Omega.{arith}
 use mathlib.Core.Path.{ap}
-use Rattle.rules.specs.Head.{headBytes, Array}
-use Rattle.put.proofs.Wrote.{wrote_then, wrote_as, wrote-length}
+use Rattle.rules.specs.Head.{head_bytes, Array}
+use Rattle.put.proofs.Wrote.{wrote_then, wrote_as, wrote_length}
 use Rattle.resolver.specs.Written.{parts_of}
-use Rattle.resolver.proofs.ResultItems.{items-most}
+use Rattle.resolver.proofs.ResultItems.{items_most}
 use Rattle.resolver.proofs.Encoded.{counted, sizes}
 use borrow.Author.Rules.{rules}
 use Rattle.resolver.proofs.put_parts.Statement.{statement}
@@ -13,13 +13,13 @@ use Rattle.resolver.proofs.put_parts.Tie as tie
 add-count : tie.Need-overflow-add-count
 add-count c =
     let s = c.before.before.before.before.before.before.before.before.before in
-    omega (arith, c.path-items.ensures, items-most s.args.p.path.count s.args.p.tail.count)
+    omega (arith, c.path-items.ensures, items_most s.args.p.path.count s.args.p.tail.count)
 
 add-count-2 : tie.Need-overflow-add-count-2
 add-count-2 c =
     let n = c.before in
     let s = n.before.before.before.before.before.before.before.before.before in
-    omega (arith, n.path-items.ensures, items-most s.args.p.path.count s.args.p.tail.count, s.requires.0.0.further)
+    omega (arith, n.path-items.ensures, items_most s.args.p.path.count s.args.p.tail.count, s.requires.0.0.further)
 
 put-head-requires : tie.Need-put-head-requires
 put-head-requires c κs =
@@ -35,7 +35,7 @@ put-both-requires c κs =
     let s = n.before.before.before.before.before.before.before.before.before in
     let z = sizes s.args.base.now s.args.reference.now s.args.p s.requires.0 n.path-items.ensures in
     let p = a.put-head.ensures in
-    (s.requires.0.1.front, omega (arith, z.head, z.total, s.requires.1, p.place, wrote-length p))
+    (s.requires.0.1.front, omega (arith, z.head, z.total, s.requires.1, p.place, wrote_length p))
 
 put-path-head-requires : tie.Need-put-path-head-requires
 put-path-head-requires c κs =
@@ -46,7 +46,7 @@ put-path-head-requires c κs =
     let z = sizes s.args.base.now s.args.reference.now s.args.p s.requires.0 n.path-items.ensures in
     let p = a.put-head.ensures in
     let q = b.put_both.ensures in
-    omega (arith, z.head, z.front, z.total, s.requires.1, p.place, wrote-length p, q.place, wrote-length q)
+    omega (arith, z.head, z.front, z.total, s.requires.1, p.place, wrote_length p, q.place, wrote_length q)
 
 put-both-requires-2 : tie.Need-put-both-requires-2
 put-both-requires-2 c κs =
@@ -59,7 +59,7 @@ put-both-requires-2 c κs =
     let p = a.put-head.ensures in
     let q = b.put_both.ensures in
     let r = d.put-path-head.ensures in
-    (s.requires.0.1.path, omega (arith, z.head, z.front, z.total, s.requires.1, p.place, wrote-length p, q.place, wrote-length q, r.place, wrote-length r))
+    (s.requires.0.1.path, omega (arith, z.head, z.front, z.total, s.requires.1, p.place, wrote_length p, q.place, wrote_length q, r.place, wrote_length r))
 
 put-both-requires-3 : tie.Need-put-both-requires-3
 put-both-requires-3 c κs =
@@ -74,7 +74,7 @@ put-both-requires-3 c κs =
     let q = b.put_both.ensures in
     let r = d.put-path-head.ensures in
     let v = t.put-both2.ensures in
-    (s.requires.0.1.tail, omega (arith, z.head, z.front, z.path, z.total, s.requires.1, p.place, wrote-length p, q.place, wrote-length q, r.place, wrote-length r, v.place, wrote-length v))
+    (s.requires.0.1.tail, omega (arith, z.head, z.front, z.path, z.total, s.requires.1, p.place, wrote_length p, q.place, wrote_length q, r.place, wrote_length r, v.place, wrote_length v))
 
 returns : tie.Need-returns
 unfolding parts_of
@@ -86,7 +86,7 @@ returns c =
     let a = b.before.before.before.before in
     let n = a.before.before.before in
     let s = n.before.before.before.before.before.before.before.before.before in
-    wrote_then (wrote_as (ap (headBytes Array) (counted s.args.p n.path-items.ensures)) a.put-head.ensures)
+    wrote_then (wrote_as (ap (head_bytes Array) (counted s.args.p n.path-items.ensures)) a.put-head.ensures)
     (wrote_then b.put_both.ensures (wrote_then d.put-path-head.ensures (wrote_then t.put-both2.ensures i.put-both3.ensures)))
 
 pub put-parts-spec : {M : Type 1} → statement M

@@ -6,10 +6,10 @@ use Rattle.resolver_parts.proofs.fragment_start.Statement.{statement}
 use Rattle.resolver_parts.proofs.fragment_start.Tie as tie
 
 sub-result : tie.Need-overflow-sub-result
-sub-result c = omega (arith, c.head-length.ensures Text, rw c.before.before.fragment.given.1 at c.before.before.before.before.requires)
+sub-result c = omega (arith, c.head_length_lem.ensures Text, rw c.before.before.fragment.given.1 at c.before.before.before.before.requires)
 
 returns-2 : tie.Need-returns-2
-returns-2 c = simp c.before.before.fragment.given.1 (omega (arith, c.head-length.ensures Text))
+returns-2 c = simp c.before.before.fragment.given.1 (omega (arith, c.head_length_lem.ensures Text))
 
 pub fragment-start-spec : {M : Type 1} → statement M
 fragment-start-spec =

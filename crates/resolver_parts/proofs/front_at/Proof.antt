@@ -1,7 +1,7 @@
 -- `resolver_parts::front_at` meets its contract.
 use native.Mathlib.Omega.{arith}
 use Rattle.rules.specs.Encode.{or_null}
-use Rattle.resolver_parts.proofs.ResultParts.{span-is, both_is, front-old, front-own}
+use Rattle.resolver_parts.proofs.ResultParts.{span_is_lem, both_is, front_old, front_own}
 use borrow.Author.Rules.{rules}
 use Rattle.resolver_parts.proofs.front_at.Statement.{statement}
 use Rattle.resolver_parts.proofs.front_at.Tie as tie
@@ -29,21 +29,21 @@ between-requires-6 c κs =
     omega (arith, o.0, o.1)
 
 returns : tie.Need-returns
-returns c = simp c.before.before.enum_told.given.1 (λ base ref s a p q o. front-old s a _ c.before.between.ensures c.nowhere.ensures p q)
+returns c = simp c.before.before.enum_told.given.1 (λ base ref s a p q o. front_old s a _ c.before.between.ensures c.nowhere.ensures p q)
 
 returns-2 : tie.Need-returns-2
-returns-2 c = simp c.before.before.enum-told2.given.1 (λ base ref s a p q o. front-old s a _ c.before.between2.ensures c.nowhere2.ensures p q)
+returns-2 c = simp c.before.before.enum-told2.given.1 (λ base ref s a p q o. front_old s a _ c.before.between2.ensures c.nowhere2.ensures p q)
 
 returns-3 : tie.Need-returns-3
-returns-3 c = simp (c.before.before.before.before.before.opening.given.1, c.before.before.enum-told3.given.1) (λ base ref s a p q o. both_is _ (span-is p _ c.before.between3.ensures) (span-is o.authority _ c.between4.ensures))
+returns-3 c = simp (c.before.before.before.before.before.opening.given.1, c.before.before.enum-told3.given.1) (λ base ref s a p q o. both_is _ (span_is_lem p _ c.before.between3.ensures) (span_is_lem o.authority _ c.between4.ensures))
 
 returns-4 : tie.Need-returns-4
 unfolding or_null
-returns-4 c = simp (c.before.before.before.before.before.opening.given.1, c.before.before.enum-told4.given.1) (λ base ref s a p q o. front-own _ c.before.nowhere3.ensures c.between5.ensures o)
+returns-4 c = simp (c.before.before.before.before.before.opening.given.1, c.before.before.enum-told4.given.1) (λ base ref s a p q o. front_own _ c.before.nowhere3.ensures c.between5.ensures o)
 
 returns-5 : tie.Need-returns-5
 unfolding or_null
-returns-5 c = simp (c.before.before.before.before.before.opening.given.1, c.before.before.enum-told5.given.1) (λ base ref s a p q o. front-own _ c.before.nowhere4.ensures c.between6.ensures o)
+returns-5 c = simp (c.before.before.before.before.before.opening.given.1, c.before.before.enum-told5.given.1) (λ base ref s a p q o. front_own _ c.before.nowhere4.ensures c.between6.ensures o)
 
 pub front-at-spec : {M : Type 1} → statement M
 front-at-spec =

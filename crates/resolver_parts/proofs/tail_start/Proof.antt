@@ -6,7 +6,7 @@ use Rattle.resolver_parts.proofs.tail_start.Statement.{statement}
 use Rattle.resolver_parts.proofs.tail_start.Tie as tie
 
 sub-result : tie.Need-overflow-sub-result
-sub-result c = omega (arith, c.head-length.ensures Text, rw c.before.before.query.given.1 at c.before.before.before.before.requires.0)
+sub-result c = omega (arith, c.head_length_lem.ensures Text, rw c.before.before.query.given.1 at c.before.before.before.before.requires.0)
 
 sub-result-2 : tie.Need-overflow-sub-result-2
 sub-result-2 c = omega (arith, c.head-length2.ensures Text, rw c.before.before.fragment.given.1 at c.before.before.before.before.before.before.requires.1)
@@ -15,7 +15,7 @@ sub-result-3 : tie.Need-overflow-sub-result-3
 sub-result-3 c = omega (arith, c.head-length2.ensures Text, rw c.before.before.fragment.given.1 at c.before.before.before.before.before.before.requires.1)
 
 returns : tie.Need-returns
-returns c = simp c.before.before.query.given.1 (omega (arith, c.head-length.ensures Text))
+returns c = simp c.before.before.query.given.1 (omega (arith, c.head_length_lem.ensures Text))
 
 returns-3 : tie.Need-returns-3
 returns-3 c = simp (c.before.before.before.before.enum_told.given.1, c.before.before.fragment.given.1) (omega (arith, c.head-length2.ensures Text))

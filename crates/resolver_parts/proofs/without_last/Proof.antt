@@ -1,5 +1,5 @@
 -- `resolver_parts::without_last` meets its contract.
-use Rattle.resolver_parts.proofs.ResultParts.{row-all, row-gone, first-stand, row_first}
+use Rattle.resolver_parts.proofs.ResultParts.{row_all, row_gone, first_stand, row_first}
 use borrow.Author.Rules.{rules}
 use Rattle.resolver_parts.proofs.without_last.Statement.{statement}
 use Rattle.resolver_parts.proofs.without_last.Tie as tie
@@ -7,17 +7,17 @@ use Rattle.resolver_parts.proofs.without_last.Tie as tie
 returns : tie.Need-returns
 returns c =
     let a = c.before.before in
-    row-all a.args.s.now a.args.row a.args.k a.requires c.if1.true
+    row_all a.args.s.now a.args.row a.args.k a.requires c.if1.true
 
 returns-2 : tie.Need-returns-2
 returns-2 c =
     let a = c.before.before.before.before in
-    row-gone a.args.s.now a.args.row a.args.k a.requires c.before.if2.true _ c.no_row.ensures
+    row_gone a.args.s.now a.args.row a.args.k a.requires c.before.if2.true _ c.no_row.ensures
 
 after-requires : tie.Need-after-requires
 after-requires c κs =
     let a = c.before.before.before.before in
-    first-stand a.args.s.now a.args.row a.args.k a.requires
+    first_stand a.args.s.now a.args.row a.args.k a.requires
 
 sub-t9 : tie.Need-overflow-sub-t9
 sub-t9 c =

@@ -5,10 +5,10 @@ use mathlib.Core.Path.{sym, ap, ◌∙◌}
 use lib.ListN.{length, take}
 use lib.Seq.{length-take-le}
 use Rattle.rules.specs.Model.{limits}
-use Rattle.rules.specs.Calls.{readCall}
-use Rattle.components.specs.Layout.{readingLaid, spansAfter}
+use Rattle.rules.specs.Calls.{read_call}
+use Rattle.components.specs.Layout.{reading_laid, spans_after}
 use Rattle.round_trip.specs.declared.ReadBack.{ReadBack}
-use Rattle.round_trip.proofs.Rereading.{components-sized, length-within, same-contents}
+use Rattle.round_trip.proofs.Rereading.{components_sized, length_within, same_contents}
 use borrow.Author.Rules.{rules}
 use Rattle.round_trip.proofs.reread.Statement.{statement}
 use Rattle.round_trip.proofs.reread.Tie as tie
@@ -17,7 +17,7 @@ use Rattle.round_trip.proofs.reread.Tie as tie
 inside : (c : tie.After-written) → c.written.result ≤ length c.before.before.before.write.new.1.1.1.0
 inside c =
     let w = c.before.before.before in
-    omega (arith, c.written.ensures, length-within _ _ _ w.write.ensures.0)
+    omega (arith, c.written.ensures, length_within _ _ _ w.write.ensures.0)
 
 slice-reshare-prefix-read : tie.Need-slice-reshare-prefix-read
 slice-reshare-prefix-read c = omega (arith, inside c)
@@ -33,17 +33,17 @@ returns c =
     let args = start.args in
     let left = w.write.new.1.1.1.0 in
     let xs = args.spans.now in
-    let sized = components-sized xs args.components start.well-formed.0 in
+    let sized = components_sized xs args.components start.well-formed.0 in
     let reads = c.read.ensures in
-    let told = reads.0 ∙ ap (λ (m : ℕ). readingLaid (readCall limits (take m left))) n.written.ensures in
-    let stored = reads.1 ∙ ap (λ (m : ℕ). spansAfter (readCall limits (take m left)) args.found.now) n.written.ensures in
+    let told = reads.0 ∙ ap (λ (m : ℕ). reading_laid (read_call limits (take m left))) n.written.ensures in
+    let stored = reads.1 ∙ ap (λ (m : ℕ). spans_after (read_call limits (take m left)) args.found.now) n.written.ensures in
     let r : ReadBack = record { written = w.write.result; reading = c.read.result } in
     record {
       written = w.write.ensures.0;
       left = w.write.ensures.1;
       reading = told;
       spans = stored;
-      back = same-contents args.components xs args.lent.now args.room.now left r _ _ sized start.well-formed.1.1.0.0 w.write.ensures told stored;
+      back = same_contents args.components xs args.lent.now args.room.now left r _ _ sized start.well-formed.1.1.0.0 w.write.ensures told stored;
     }
 
 pub reread-spec : {M : Type 1} → statement M

@@ -1,7 +1,7 @@
 -- `sameness::judge` meets its contract.
 use native.Mathlib.Omega.{arith}
-use Rattle.rules.proofs.Tools.{octets-of}
-use Rattle.sameness.proofs.Answers.{both-judged}
+use Rattle.rules.proofs.Tools.{octets_of}
+use Rattle.sameness.proofs.Answers.{both_judged}
 use borrow.Author.Rules.{rules}
 use Rattle.sameness.proofs.judge.Statement.{statement}
 use Rattle.sameness.proofs.judge.Tie as tie
@@ -14,9 +14,9 @@ returns c =
     let s = k.before.before in
     let a = s.args.first.now in
     let b = s.args.second.now in
-    let ha = octets-of a (λ i. omega (arith, k.before.shared-slice-known.given i)) in
-    let hb = octets-of b (λ i. omega (arith, k.shared-slice-known2.given i)) in
-    both-judged a b _ _ m.compare.result _ _ ha hb (omega arith) (omega arith) v.verdict-of.ensures c.verdict-of2.ensures m.compare.ensures.0
+    let ha = octets_of a (λ i. omega (arith, k.before.shared-slice-known.given i)) in
+    let hb = octets_of b (λ i. omega (arith, k.shared-slice-known2.given i)) in
+    both_judged a b _ _ m.compare.result _ _ ha hb (omega arith) (omega arith) v.verdict-of.ensures c.verdict-of2.ensures m.compare.ensures.0
 
 pub judge-spec : {M : Type 1} → statement M
 judge-spec =

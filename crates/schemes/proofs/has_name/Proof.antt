@@ -3,12 +3,12 @@ use native.Mathlib.Omega.{arith}
 use mathlib.Core.Path.{sym, ap, ◌∙◌}
 use lib.Seq.{length-take-le}
 use Rattle.rules.specs.Bytes.{part, same}
-use Rattle.rules.specs.Rules.{schemes, schemeIn}
-use Rattle.rules.specs.Text.{entryName}
-use Rattle.put.proofs.Wrote.{wrote-length, wrote-taken}
-use Rattle.same_bytes.proofs.SameBytes.{compared-other}
+use Rattle.rules.specs.Rules.{schemes, scheme_in}
+use Rattle.rules.specs.Text.{entry_name}
+use Rattle.put.proofs.Wrote.{wrote_length, wrote_taken}
+use Rattle.same_bytes.proofs.SameBytes.{compared_other}
 use Rattle.schemes.specs.Schemes.{same_name}
-use Rattle.schemes.proofs.Table.{name-most, no_name, same-entry}
+use Rattle.schemes.proofs.Table.{name_most, no_name, same_entry}
 use borrow.Author.Rules.{rules}
 use Rattle.schemes.proofs.has_name.Statement.{statement}
 use Rattle.schemes.proofs.has_name.Tie as tie
@@ -25,21 +25,21 @@ returns-2 c =
     let l = c.before.before in
     let s = l.before.before in
     let a = s.args in
-    let m = schemeIn schemes a.number in
+    let m = scheme_in schemes a.number in
     let e = l.name-length.ensures in
-    compared-other a.s.now a.from a.n (entryName m) s.requires (λ q. c.if2.true (e ∙ sym q))
-    ∙ same-entry (part a.s.now a.from a.n) m (λ q. c.before.if1.false (e ∙ q))
+    compared_other a.s.now a.from a.n (entry_name m) s.requires (λ q. c.if2.true (e ∙ sym q))
+    ∙ same_entry (part a.s.now a.from a.n) m (λ q. c.before.if1.false (e ∙ q))
 
-put-name-requires : tie.Need-put-name-requires
-put-name-requires c κs = name-most c.before.before.before.before.before.args.number
+put_name_requires : tie.Need-put-name-requires
+put_name_requires c κs = name_most c.before.before.before.before.before.args.number
 
-array-share-prefix-name : tie.Need-array-share-prefix-name
-array-share-prefix-name c =
+array_share_prefix_name : tie.Need-array-share-prefix-name
+array_share_prefix_name c =
     let w = c.before.put-name.ensures in
-    omega (arith, wrote-length w, name-most c.before.before.before.before.before.before.before.args.number)
+    omega (arith, wrote_length w, name_most c.before.before.before.before.before.before.before.args.number)
 
 slice-aggregate-same-at : tie.Need-slice-aggregate-same-at
-slice-aggregate-same-at c = sym (length-take-le _ _ (array-share-prefix-name c.before))
+slice-aggregate-same-at c = sym (length-take-le _ _ (array_share_prefix_name c.before))
 
 returns-3 : tie.Need-returns-3
 returns-3 c =
@@ -48,8 +48,8 @@ returns-3 c =
     let a = i.before.before.before.args in
     let t = part a.s.now a.from a.n in
     c.same_at.ensures
-    ∙ ap (same t) (wrote-taken p.put-name.ensures (omega (arith, name-most a.number)))
-    ∙ same-entry t (schemeIn schemes a.number) (λ q. i.if1.false (i.before.name-length.ensures ∙ q))
+    ∙ ap (same t) (wrote_taken p.put-name.ensures (omega (arith, name_most a.number)))
+    ∙ same_entry t (scheme_in schemes a.number) (λ q. i.if1.false (i.before.name-length.ensures ∙ q))
 
 pub has-name-spec : {M : Type 1} → statement M
 has-name-spec =
@@ -59,8 +59,8 @@ has-name-spec =
     returns
     returns-2
     (λ c. search rules)
-    put-name-requires
-    array-share-prefix-name
+    put_name_requires
+    array_share_prefix_name
     slice-aggregate-same-at
     (λ c κs. search rules)
     returns-3)

@@ -2,7 +2,7 @@
 use mathlib.Core.Path.{sym, subst}
 use mir.Syntax.{w64}
 use mir.Val.{SFits}
-use Rattle.schemes.proofs.Schemes.{negated_fits, down, under, under-read}
+use Rattle.schemes.proofs.Schemes.{negated_fits, down, under, under_read}
 use borrow.Author.Rules.{rules}
 use Rattle.schemes.proofs.id_of.Statement.{statement}
 use Rattle.schemes.proofs.id_of.Tie as tie
@@ -14,7 +14,7 @@ sub-result-2 : tie.Need-overflow-sub-result-2
 sub-result-2 c = subst (SFits w64) (sym (under c.args.number c.requires)) (record { sfits = c.requires })
 
 returns : tie.Need-returns
-returns c = under-read c.args.number c.requires
+returns c = under_read c.args.number c.requires
 
 pub id-of-spec : {M : Type 1} → statement M
 id-of-spec = tie.close (tie.spec (λ c. search rules) sub-result sub-result-2 returns)

@@ -5,8 +5,8 @@ use lib.Dec.{eqb}
 use mir.Syntax.{w64}
 use mir.Val.{to_z, of_z}
 use mir.Facts.{to_z-of_z}
-use Rattle.schemes.specs.Schemes.{knownId}
-use Rattle.schemes.proofs.Table.{known-entry}
+use Rattle.schemes.specs.Schemes.{known_id}
+use Rattle.schemes.proofs.Table.{known_entry}
 use borrow.Author.Rules.{rules}
 use Rattle.schemes.proofs.is_known.Statement.{statement}
 use Rattle.schemes.proofs.is_known.Tie as tie
@@ -15,8 +15,8 @@ returns : tie.Need-returns
 returns c =
     let s = c.before.before.before.before in
     ap (λ k. not (eqb k 0)) c.before.before.put-by-id.ensures.size
-    ∙ known-entry (to_z w64 (of_z w64 s.args.id))
-    ∙ ap knownId (to_z-of_z {w = w64} s.ranges.id)
+    ∙ known_entry (to_z w64 (of_z w64 s.args.id))
+    ∙ ap known_id (to_z-of_z {w = w64} s.ranges.id)
 
 pub is-known-spec : {M : Type 1} → statement M
 is-known-spec = tie.close (tie.spec (λ c. search rules) (λ c κs. search rules) returns)

@@ -1,42 +1,42 @@
 -- `texts::label_rule` meets its contract. The loop's invariant: the test of what is left is the test of the whole.
 use Prim.Native.Nat.{◌+◌, ◌-◌}
 use mathlib.Core.Path.{sym, ◌∙◌}
-use Rattle.rules.specs.Rules.{labelByte, labelRule}
-use Rattle.texts.proofs.ByteWalk.{Tested, tested-none, tested-next, tested-no, tested-all}
+use Rattle.rules.specs.Rules.{label_byte, label_rule}
+use Rattle.texts.proofs.ByteWalk.{Tested, tested_none, tested_next, tested_no, tested_all}
 use borrow.Author.Rules.{rules}
 use Rattle.texts.proofs.label_rule.Statement.{statement}
 use Rattle.texts.proofs.label_rule.Tie as tie
 
-abbrev invariant-loop : tie.invariant-loop
-invariant-loop s from n end i₀ i = Tested labelByte s from n i
+abbrev invariant_loop : tie.invariant_loop
+invariant_loop s from n end i₀ i = Tested label_byte s from n i
 
-abbrev decreases-loop : tie.decreases-loop
-decreases-loop s from n end i₀ i = from + n - i
+abbrev decreases_loop : tie.decreases_loop
+decreases_loop s from n end i₀ i = from + n - i
 
-loop-holds : tie.Need-loop-init invariant-loop decreases-loop
-loop-holds c = tested-none _ _ _ _ c.before.requires
+loop-holds : tie.Need-loop-init invariant_loop decreases_loop
+loop-holds c = tested_none _ _ _ _ c.before.requires
 
-loop-again : tie.Need-loop-preserved invariant-loop decreases-loop
+loop-again : tie.Need-loop-preserved invariant_loop decreases_loop
 loop-again c =
     let l = c.before.before.before.before.loop in
-    tested-next _ _ _ _ l.i l.invariant c.before.before.before.loop-test.true (sym c.before.label-byte.ensures ∙ c.if1.true)
+    tested_next _ _ _ _ l.i l.invariant c.before.before.before.loop-test.true (sym c.before.label-byte.ensures ∙ c.if1.true)
 
-returns : tie.Need-returns invariant-loop decreases-loop
-unfolding labelRule
+returns : tie.Need-returns invariant_loop decreases_loop
+unfolding label_rule
 returns c =
     let l = c.before.before.before.before.loop in
-    tested-no _ _ _ _ l.i l.invariant c.before.before.before.loop-test.true (sym c.before.label-byte.ensures ∙ c.if1.false)
+    tested_no _ _ _ _ l.i l.invariant c.before.before.before.loop-test.true (sym c.before.label-byte.ensures ∙ c.if1.false)
 
-returns-2 : tie.Need-returns-2 invariant-loop decreases-loop
-unfolding labelRule
-returns-2 c = let l = c.before.loop in tested-all _ _ _ _ l.i l.invariant c.loop-test.false
+returns-2 : tie.Need-returns-2 invariant_loop decreases_loop
+unfolding label_rule
+returns-2 c = let l = c.before.loop in tested_all _ _ _ _ l.i l.invariant c.loop-test.false
 
 pub label-rule-spec : {M : Type 1} → statement M
 label-rule-spec =
     tie.close
     (tie.spec
-    invariant-loop
-    decreases-loop
+    invariant_loop
+    decreases_loop
     (λ c. search rules)
     loop-holds
     (λ c. search rules)

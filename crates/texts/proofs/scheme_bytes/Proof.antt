@@ -1,40 +1,40 @@
 -- `texts::scheme_bytes` meets its contract. The loop's invariant: the test of what is left is the test of the whole.
 use Prim.Native.Nat.{◌+◌, ◌-◌}
 use mathlib.Core.Path.{sym, ◌∙◌}
-use Rattle.rules.specs.Rules.{schemeByte}
-use Rattle.texts.proofs.ByteWalk.{Tested, tested-none, tested-next, tested-no, tested-all}
+use Rattle.rules.specs.Rules.{scheme_byte}
+use Rattle.texts.proofs.ByteWalk.{Tested, tested_none, tested_next, tested_no, tested_all}
 use borrow.Author.Rules.{rules}
 use Rattle.texts.proofs.scheme_bytes.Statement.{statement}
 use Rattle.texts.proofs.scheme_bytes.Tie as tie
 
-abbrev invariant-loop : tie.invariant-loop
-invariant-loop s from n end i₀ i = Tested schemeByte s from n i
+abbrev invariant_loop : tie.invariant_loop
+invariant_loop s from n end i₀ i = Tested scheme_byte s from n i
 
-abbrev decreases-loop : tie.decreases-loop
-decreases-loop s from n end i₀ i = from + n - i
+abbrev decreases_loop : tie.decreases_loop
+decreases_loop s from n end i₀ i = from + n - i
 
-loop-holds : tie.Need-loop-init invariant-loop decreases-loop
-loop-holds c = tested-none _ _ _ _ c.before.requires
+loop-holds : tie.Need-loop-init invariant_loop decreases_loop
+loop-holds c = tested_none _ _ _ _ c.before.requires
 
-loop-again : tie.Need-loop-preserved invariant-loop decreases-loop
+loop-again : tie.Need-loop-preserved invariant_loop decreases_loop
 loop-again c =
     let l = c.before.before.before.before.loop in
-    tested-next _ _ _ _ l.i l.invariant c.before.before.before.loop-test.true (sym c.before.scheme-byte.ensures ∙ c.if1.true)
+    tested_next _ _ _ _ l.i l.invariant c.before.before.before.loop-test.true (sym c.before.scheme-byte.ensures ∙ c.if1.true)
 
-returns : tie.Need-returns invariant-loop decreases-loop
+returns : tie.Need-returns invariant_loop decreases_loop
 returns c =
     let l = c.before.before.before.before.loop in
-    tested-no _ _ _ _ l.i l.invariant c.before.before.before.loop-test.true (sym c.before.scheme-byte.ensures ∙ c.if1.false)
+    tested_no _ _ _ _ l.i l.invariant c.before.before.before.loop-test.true (sym c.before.scheme-byte.ensures ∙ c.if1.false)
 
-returns-2 : tie.Need-returns-2 invariant-loop decreases-loop
-returns-2 c = let l = c.before.loop in tested-all _ _ _ _ l.i l.invariant c.loop-test.false
+returns-2 : tie.Need-returns-2 invariant_loop decreases_loop
+returns-2 c = let l = c.before.loop in tested_all _ _ _ _ l.i l.invariant c.loop-test.false
 
 pub scheme-bytes-spec : {M : Type 1} → statement M
 scheme-bytes-spec =
     tie.close
     (tie.spec
-    invariant-loop
-    decreases-loop
+    invariant_loop
+    decreases_loop
     (λ c. search rules)
     loop-holds
     (λ c. search rules)

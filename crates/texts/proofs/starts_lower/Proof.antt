@@ -1,6 +1,6 @@
 -- `texts::starts_lower` meets its contract.
 use mathlib.Core.Path.{◌∙◌}
-use Rattle.rules.specs.Rules.{startsLower}
+use Rattle.rules.specs.Rules.{starts_lower}
 use Rattle.rules.proofs.Tools.{part_none}
 use Rattle.texts.proofs.RuleCases.{starts}
 use borrow.Author.Rules.{rules}
@@ -8,7 +8,7 @@ use Rattle.texts.proofs.starts_lower.Statement.{statement}
 use Rattle.texts.proofs.starts_lower.Tie as tie
 
 returns : tie.Need-returns
-unfolding startsLower
+unfolding starts_lower
 returns c = let a = c.before.before.args in simp (part_none a.s.now a.from a.n c.if1.true)
 
 returns-2 : tie.Need-returns-2

@@ -1,9 +1,9 @@
--- `texts::text_body` meets its contract: the tests that led to each return are the steps of `textBody`.
+-- `texts::text_body` meets its contract: the tests that led to each return are the steps of `text_body`.
 use native.Mathlib.Omega.{arith}
 use mathlib.Core.Path.{sym, ◌∙◌}
 use borrow.Author.Tests.{not-true, not-false}
-use Rattle.texts.specs.Answers.{sortIs}
-use Rattle.texts.proofs.RuleCases.{text-limit, text-cut, text-wrong, text-against, text-kept}
+use Rattle.texts.specs.Answers.{sort_is}
+use Rattle.texts.proofs.RuleCases.{text_limit, text_cut, text_wrong, text_against, text_kept}
 use borrow.Author.Rules.{rules}
 use Rattle.texts.proofs.text_body.Statement.{statement}
 use Rattle.texts.proofs.text_body.Tie as tie
@@ -12,21 +12,21 @@ returns : tie.Need-returns
 returns c =
     λ k at.
     let a = c.before.before.before.args in
-    text-limit (sortIs a.sort) a.s.now at (record { kind = k; value = a.n; next = a.next }) (sym c.before.length-fits.ensures ∙ not-true _ c.if1.true)
+    text_limit (sort_is a.sort) a.s.now at (record { kind = k; value = a.n; next = a.next }) (sym c.before.length-fits.ensures ∙ not-true _ c.if1.true)
 
 returns-2 : tie.Need-returns-2
 returns-2 c =
     λ k at.
     let f = c.before in
     let a = f.before.before.before.args in
-    text-cut (sortIs a.sort) a.s.now at (record { kind = k; value = a.n; next = a.next }) (sym f.before.length-fits.ensures ∙ not-false _ f.if1.false) (omega arith)
+    text_cut (sort_is a.sort) a.s.now at (record { kind = k; value = a.n; next = a.next }) (sym f.before.length-fits.ensures ∙ not-false _ f.if1.false) (omega arith)
 
 returns-3 : tie.Need-returns-3
 returns-3 c =
     λ k at.
     let f = c.before.before.before in
     let a = f.before.before.before.args in
-    text-wrong (sortIs a.sort) a.s.now at (record { kind = k; value = a.n; next = a.next }) (sym f.before.length-fits.ensures ∙ not-false _ f.if1.false) (omega arith)
+    text_wrong (sort_is a.sort) a.s.now at (record { kind = k; value = a.n; next = a.next }) (sym f.before.length-fits.ensures ∙ not-false _ f.if1.false) (omega arith)
     (sym c.before.valid.ensures ∙ not-true _ c.if3.true)
 
 returns-4 : tie.Need-returns-4
@@ -35,7 +35,7 @@ returns-4 c =
     let u = c.before.before in
     let f = u.before.before.before in
     let a = f.before.before.before.args in
-    text-against (sortIs a.sort) a.s.now at (record { kind = k; value = a.n; next = a.next }) (sym f.before.length-fits.ensures ∙ not-false _ f.if1.false) (omega arith)
+    text_against (sort_is a.sort) a.s.now at (record { kind = k; value = a.n; next = a.next }) (sym f.before.length-fits.ensures ∙ not-false _ f.if1.false) (omega arith)
     (sym u.before.valid.ensures ∙ not-false _ u.if3.false) (sym c.before.keeps-rule.ensures ∙ not-true _ c.if4.true)
 
 returns-5 : tie.Need-returns-5
@@ -44,7 +44,7 @@ returns-5 c =
     let u = c.before.before in
     let f = u.before.before.before in
     let a = f.before.before.before.args in
-    text-kept (sortIs a.sort) a.s.now at (record { kind = k; value = a.n; next = a.next }) (sym f.before.length-fits.ensures ∙ not-false _ f.if1.false) (omega arith)
+    text_kept (sort_is a.sort) a.s.now at (record { kind = k; value = a.n; next = a.next }) (sym f.before.length-fits.ensures ∙ not-false _ f.if1.false) (omega arith)
     (sym u.before.valid.ensures ∙ not-false _ u.if3.false) (sym c.before.keeps-rule.ensures ∙ not-false _ c.if4.false)
 
 pub text-body-spec : {M : Type 1} → statement M

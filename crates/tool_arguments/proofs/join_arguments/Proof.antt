@@ -6,18 +6,18 @@ use borrow.Author.Rules.{rules}
 use Rattle.tool_arguments.proofs.join_arguments.Statement.{statement}
 use Rattle.tool_arguments.proofs.join_arguments.Tie as tie
 
-abbrev invariant-loop : tie.invariant-loop
-invariant-loop room₀ count at₀ i₀ room at i = (i ≤ 2 + count) × (length room ≡ length room₀)
+abbrev invariant_loop : tie.invariant_loop
+invariant_loop room₀ count at₀ i₀ room at i = (i ≤ 2 + count) × (length room ≡ length room₀)
 
-abbrev decreases-loop : tie.decreases-loop
-decreases-loop room₀ count at₀ i₀ room at i = count - i
+abbrev decreases_loop : tie.decreases_loop
+decreases_loop room₀ count at₀ i₀ room at i = count - i
 
 pub join-arguments-spec : {M : Type 1} → statement M
 join-arguments-spec =
     tie.close
     (tie.spec
-    invariant-loop
-    decreases-loop
+    invariant_loop
+    decreases_loop
     (λ c. search rules)
     (λ c κs. search rules)
     (λ c. search rules)

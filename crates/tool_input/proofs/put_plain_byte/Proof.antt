@@ -4,17 +4,17 @@ use mathlib.Core.Path.{◌≡◌, sym, ap, ◌∙◌}
 use mathlib.Core.List.{[], ◌∷◌}
 use lib.ListN.{length}
 use Rattle.put.proofs.Wrote.{wrote_none, wrote_one}
-use Rattle.tool_input.specs.Plain.{lowerCase, plain_byte}
-use Rattle.tool_input.proofs.Plain.{blank-byte, other_byte}
+use Rattle.tool_input.specs.Plain.{lower_case, plain_byte}
+use Rattle.tool_input.proofs.Plain.{blank_byte, other_byte}
 use borrow.Author.Rules.{rules}
 use Rattle.tool_input.proofs.put_plain_byte.Statement.{statement}
 use Rattle.tool_input.proofs.put_plain_byte.Tie as tie
 
-other : (c : tie.Else1) → let a = c.before.before.before.args in plain_byte a.c ≡ lowerCase a.c ∷ []
+other : (c : tie.Else1) → let a = c.before.before.before.args in plain_byte a.c ≡ lower_case a.c ∷ []
 other c = other_byte _ (sym c.before.is-blank.ensures ∙ c.if1.false)
 
 returns : tie.Need-returns
-returns c = rw (blank-byte _ (sym c.before.is-blank.ensures ∙ c.if1.true)) wrote_none
+returns c = rw (blank_byte _ (sym c.before.is-blank.ensures ∙ c.if1.true)) wrote_none
 
 slice-write-room : tie.Need-slice-write-room
 slice-write-room c = omega (arith, ap length (other c.before))

@@ -6,15 +6,15 @@ use Rattle.rules.specs.Bytes.{part}
 use Rattle.rules.specs.Text.{escape}
 use Rattle.rules.proofs.Tools.{length_part}
 use Rattle.put.proofs.Wrote.{wrote_as}
-use Rattle.uri_escape.specs.Escape.{classIs}
-use Rattle.uri_escape.proofs.Escape.{escape-bare}
+use Rattle.uri_escape.specs.Escape.{class_is}
+use Rattle.uri_escape.proofs.Escape.{escape_bare}
 use borrow.Author.Rules.{rules}
 use Rattle.uri_escape.proofs.put_long.Statement.{statement}
 use Rattle.uri_escape.proofs.put_long.Tie as tie
 
 bare : (c : tie.Then2) → let a = c.before.before.before.before.before.args in
-    escape (classIs a.class) (part a.src.now a.from a.n) ≡ part a.src.now a.from a.n
-bare c = escape-bare _ _ (sym c.before.stand-bare.ensures ∙ c.if2.true)
+    escape (class_is a.class) (part a.src.now a.from a.n) ≡ part a.src.now a.from a.n
+bare c = escape_bare _ _ (sym c.before.stand-bare.ensures ∙ c.if2.true)
 
 put-part-requires : tie.Need-put-part-requires
 put-part-requires c κs =

@@ -3,7 +3,7 @@ use native.Mathlib.Omega.{arith}
 use mathlib.Core.Path.{ap}
 use lib.ListN.{length}
 use Rattle.reader.specs.Answers.{slot_of}
-use Rattle.uri_parts.proofs.Pieces.{fragment-unset, fragment-set}
+use Rattle.uri_parts.proofs.Pieces.{fragment_unset, fragment_set}
 use borrow.Author.Rules.{rules}
 use Rattle.uri_parts.proofs.fragment_length.Statement.{statement}
 use Rattle.uri_parts.proofs.fragment_length.Tie as tie
@@ -17,15 +17,15 @@ long-length-requires c κs =
 add-result : tie.Need-overflow-add-result
 add-result c =
     let s = c.before.before.before.before.before in
-    omega (arith, s.requires.1.1.1, c.long-length.ensures, ap length (fragment-set s.args.s.now (ap slot_of c.before.before.fragment.given.1)))
+    omega (arith, s.requires.1.1.1, c.long-length.ensures, ap length (fragment_set s.args.s.now (ap slot_of c.before.before.fragment.given.1)))
 
 returns : tie.Need-returns
-returns c = ap length (fragment-unset _ (ap slot_of c.enum_told.given.1))
+returns c = ap length (fragment_unset _ (ap slot_of c.enum_told.given.1))
 
 returns-2 : tie.Need-returns-2
 returns-2 c =
     let s = c.before.before.before.before.before in
-    omega (arith, c.long-length.ensures, ap length (fragment-set s.args.s.now (ap slot_of c.before.before.fragment.given.1)))
+    omega (arith, c.long-length.ensures, ap length (fragment_set s.args.s.now (ap slot_of c.before.before.fragment.given.1)))
 
 pub fragment-length-spec : {M : Type 1} → statement M
 fragment-length-spec =

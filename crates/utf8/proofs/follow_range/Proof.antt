@@ -5,27 +5,27 @@ use lib.ListN.{length}
 use borrow.Author.Rules.{rules}
 use native.Mathlib.Omega.{arith}
 use Rattle.rules.specs.Bytes.{part}
-use Rattle.rules.specs.Utf8.{utf8From}
-use Rattle.utf8.proofs.Utf8Walk.{follow-turn, followed-cut, followed-stop, followed-all}
+use Rattle.rules.specs.Utf8.{utf8_from}
+use Rattle.utf8.proofs.Utf8Walk.{follow_turn, followed_cut, followed_stop, followed_all}
 use Rattle.utf8.proofs.follow_range.Statement.{statement}
 use Rattle.utf8.proofs.follow_range.Tie as tie
 
-abbrev invariant-loop : tie.invariant-loop
-invariant-loop s from end n low high least₀ most₀ k₀ least most k =
+abbrev invariant_loop : tie.invariant_loop
+invariant_loop s from end n low high least₀ most₀ k₀ least most k =
     (k ≤ n)
     × (from + n ≤ end)
     × (end ≤ length s)
-    × (utf8From n low high (part s from (end - from)) ≡ utf8From (n - k) least most (part s (from + k) (end - (from + k))))
+    × (utf8_from n low high (part s from (end - from)) ≡ utf8_from (n - k) least most (part s (from + k) (end - (from + k))))
 
-abbrev decreases-loop : tie.decreases-loop
-decreases-loop s from end n low high least₀ most₀ k₀ least most k = n - k
+abbrev decreases_loop : tie.decreases_loop
+decreases_loop s from end n low high least₀ most₀ k₀ least most k = n - k
 
-returns : tie.Need-returns invariant-loop decreases-loop
+returns : tie.Need-returns invariant_loop decreases_loop
 returns c =
     let a = c.before.before.args in
-    followed-cut a.s.now a.from a.end a.n a.low a.high (omega arith) (omega arith) c.if1.true
+    followed_cut a.s.now a.from a.end a.n a.low a.high (omega arith) (omega arith) c.if1.true
 
-loop-holds : tie.Need-loop-init invariant-loop decreases-loop
+loop-holds : tie.Need-loop-init invariant_loop decreases_loop
 loop-holds c =
     let a = c.before.before.args in
     let i : a.from ≡ a.from + 0 = omega arith in
@@ -33,10 +33,10 @@ loop-holds c =
       search rules,
       search rules,
       search rules,
-      ap₂ (λ (k i : ℕ). utf8From k a.low a.high (part a.s.now i (a.end - i))) k i,
+      ap₂ (λ (k i : ℕ). utf8_from k a.low a.high (part a.s.now i (a.end - i))) k i,
     )
 
-loop-again : tie.Need-loop-preserved invariant-loop decreases-loop
+loop-again : tie.Need-loop-preserved invariant_loop decreases_loop
 loop-again c =
     let a = c.before.before.before.before.before.before.before.args in
     let l = c.before.before.before.before.loop in (
@@ -44,29 +44,29 @@ loop-again c =
       l.invariant.1,
       l.invariant.2,
       l.invariant.3
-          ∙ follow-turn a.s.now a.from a.end a.n l.k l.least l.most l.invariant.1 l.invariant.2 (omega arith)
+          ∙ follow_turn a.s.now a.from a.end a.n l.k l.least l.most l.invariant.1 l.invariant.2 (omega arith)
           (sym c.before.inside.ensures ∙ c.if2.true),
     )
 
-returns-2 : tie.Need-returns-2 invariant-loop decreases-loop
+returns-2 : tie.Need-returns-2 invariant_loop decreases_loop
 returns-2 c =
     let a = c.before.before.before.before.before.before.before.args in
     let l = c.before.before.before.before.loop in
-    followed-stop a.s.now a.from a.end a.n a.low a.high l.invariant.2 l.k l.least l.most l.invariant.1 (omega arith)
+    followed_stop a.s.now a.from a.end a.n a.low a.high l.invariant.2 l.k l.least l.most l.invariant.1 (omega arith)
     (sym c.before.inside.ensures ∙ c.if2.false) l.invariant.3
 
-returns-3 : tie.Need-returns-3 invariant-loop decreases-loop
+returns-3 : tie.Need-returns-3 invariant_loop decreases_loop
 returns-3 c =
     let a = c.before.before.before.before.args in
     let l = c.before.loop in
-    followed-all a.s.now a.from a.end a.n a.low a.high l.invariant.2 l.k l.least l.most l.invariant.1 (omega arith) l.invariant.3
+    followed_all a.s.now a.from a.end a.n a.low a.high l.invariant.2 l.k l.least l.most l.invariant.1 (omega arith) l.invariant.3
 
 pub follow-range-spec : {M : Type 1} → statement M
 follow-range-spec =
     tie.close
     (tie.spec
-    invariant-loop
-    decreases-loop
+    invariant_loop
+    decreases_loop
     (λ c. search rules)
     returns
     loop-holds

@@ -1,13 +1,13 @@
 -- `writer::add_name` meets its contract.
 use native.Mathlib.Omega.{arith}
-use Rattle.writer.proofs.Added.{added-as, added_then}
-use Rattle.writer.proofs.AddedItems.{labels-said, port-most}
+use Rattle.writer.proofs.Added.{added_as, added_then}
+use Rattle.writer.proofs.AddedItems.{labels_said, port_most}
 use borrow.Author.Rules.{rules}
 use Rattle.writer.proofs.add_name.Statement.{statement}
 use Rattle.writer.proofs.add_name.Tie as tie
 
 add-add-head : tie.Need-overflow-add-add-head
-add-add-head c = let h = port-most _ c.port-items.ensures in omega (arith, h, c.before.before.before.requires)
+add-add-head c = let h = port_most _ c.port_items_lem.ensures in omega (arith, h, c.before.before.before.requires)
 
 add-texts-requires : tie.Need-add-texts-requires
 add-texts-requires c κs = omega (arith, c.before.before.before.before.before.requires)
@@ -15,7 +15,7 @@ add-texts-requires c κs = omega (arith, c.before.before.before.before.before.re
 returns : tie.Need-returns
 returns c =
     let head = c.before.before.before.before in
-    added-as (λ g. g.0.1) (λ g. ((tt, g), tt)) (λ _. labels-said _ _ _ _ _ head.before.port-items.ensures)
+    added_as (λ g. g.0.1) (λ g. ((tt, g), tt)) (λ _. labels_said _ _ _ _ _ head.before.port_items_lem.ensures)
     (added_then (added_then head.add-head.ensures c.before.before.add-texts.ensures) c.add-port.ensures)
 
 pub add-name-spec : {M : Type 1} → statement M

@@ -1,12 +1,12 @@
 -- `writer::add_null` meets its contract.
-use Rattle.rules.specs.Bytes.{bigEndian}
-use Rattle.rules.specs.Head.{headBytes, majorOf, shortest, width}
+use Rattle.rules.specs.Bytes.{big_endian}
+use Rattle.rules.specs.Head.{head_bytes, major_of, shortest, width}
 use borrow.Author.Rules.{rules}
 use Rattle.writer.proofs.add_null.Statement.{statement}
 use Rattle.writer.proofs.add_null.Tie as tie
 
 returns : tie.Need-returns
-unfolding headBytes majorOf shortest width bigEndian
+unfolding head_bytes major_of shortest width big_endian
 returns c = c.add-head.ensures
 
 pub add-null-spec : {M : Type 1} → statement M

@@ -1,12 +1,12 @@
 -- `writer::add_string` meets its contract.
-use Rattle.writer.proofs.Added.{added-as, added_then}
-use Rattle.writer.proofs.AddedItems.{string-said}
+use Rattle.writer.proofs.Added.{added_as, added_then}
+use Rattle.writer.proofs.AddedItems.{string_said}
 use borrow.Author.Rules.{rules}
 use Rattle.writer.proofs.add_string.Statement.{statement}
 use Rattle.writer.proofs.add_string.Tie as tie
 
 returns : tie.Need-returns
-returns c = added-as (λ g. g.1) (λ g. (tt, g)) (λ g. string-said _ _ _ g.1) (added_then c.before.before.add-head.ensures c.add-part.ensures)
+returns c = added_as (λ g. g.1) (λ g. (tt, g)) (λ g. string_said _ _ _ g.1) (added_then c.before.before.add-head.ensures c.add-part.ensures)
 
-pub add-string-spec : {M : Type 1} → statement M
-add-string-spec = tie.close (tie.spec (λ c κs. search rules) (λ c κs. search rules) returns)
+pub add_string_spec : {M : Type 1} → statement M
+add_string_spec = tie.close (tie.spec (λ c κs. search rules) (λ c κs. search rules) returns)

@@ -9,7 +9,7 @@ returns-2 : tie.Need-returns-2
 returns-2 c =
     let k = c.before.before.before.before in
     let e = sym k.before.before.before.scheme-id.ensures ∙ k.before.id.given.1 in
-    number_read _ _ e _ (sym c.before.before.before.scheme-number.ensures ∙ c.before.n.given.1)
+    number_read _ _ e _ (sym c.before.before.before.scheme_number_lem.ensures ∙ c.before.n.given.1)
 
 pub carried-spec : {M : Type 1} → statement M
 carried-spec =

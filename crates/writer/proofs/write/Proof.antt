@@ -7,16 +7,16 @@ use lib.ListN.{take}
 use lib.Seq.{length-take-le}
 use borrow.Author.Tests.{not-true, not-false}
 use Rattle.rules.specs.Bytes.{Bytes}
-use Rattle.rules.specs.Model.{Components, limits, mapParts}
+use Rattle.rules.specs.Model.{Components, limits, map_parts}
 use Rattle.rules.specs.Reader.{taken, read}
 use Rattle.rules.specs.Encode.{encode}
-use Rattle.rules.specs.Writing.{allTexts, counted, Lie}
+use Rattle.rules.specs.Writing.{all_texts, counted, Lie}
 use Rattle.rules.specs.Result.{ok}
-use Rattle.reader.specs.Answers.{answerIs}
-use Rattle.components.specs.Content.{componentsOf}
-use Rattle.outcomes.proofs.Answers.{right-refused, right-as}
-use Rattle.writer.proofs.Added.{added-size}
-use Rattle.writer.proofs.CallCases.{call-uncounted, call-refused, call-written, call-over, made}
+use Rattle.reader.specs.Answers.{answer_is}
+use Rattle.components.specs.Content.{components_of}
+use Rattle.outcomes.proofs.Answers.{right_refused, right_as}
+use Rattle.writer.proofs.Added.{added_size}
+use Rattle.writer.proofs.CallCases.{call_uncounted, call_refused, call_written, call_over, made}
 use borrow.Author.Rules.{rules}
 use Rattle.writer.proofs.write.Statement.{statement}
 use Rattle.writer.proofs.write.Tie as tie
@@ -25,7 +25,7 @@ returns : tie.Need-returns
 returns c =
     let n = c.before.before in
     let a = n.before.before.before.args in
-    let u = right-refused 4 0 (call-uncounted a.lent.now (componentsOf a.spans.now a.c) (sym (n.is-counted.ensures a.spans.now) ∙ not-true _ c.before.if1.true)) in
+    let u = right_refused 4 0 (call_uncounted a.lent.now (components_of a.spans.now a.c) (sym (n.is-counted.ensures a.spans.now) ∙ not-true _ c.before.if1.true)) in
     (c.refused.ensures ∙ u.answered, u.holds)
 
 add-reference-requires : tie.Need-add-reference-requires
@@ -42,7 +42,7 @@ module _ (p : tie.After-add-reference) where
   lent = start.args.lent.now
 
   abbrev said : Components
-  said = componentsOf start.args.spans.now start.args.c
+  said = components_of start.args.spans.now start.args.c
 
   few : counted limits said ≡ true
   few = sym (p.before.before.before.is-counted.ensures start.args.spans.now) ∙ not-false _ p.before.before.if1.left
@@ -50,14 +50,14 @@ module _ (p : tie.After-add-reference) where
 returns-2 : tie.Need-returns-2
 returns-2 c =
     let p = c.before.before in
-    let u = right-refused 4 0 (call-over (lent p) (said p) (few p) (λ g h. omega (arith, c.before.if2.true, p.add-reference.ensures.place g (omega (arith, h))))) in
+    let u = right_refused 4 0 (call_over (lent p) (said p) (few p) (λ g h. omega (arith, c.before.if2.true, p.add-reference.ensures.place g (omega (arith, h))))) in
     (c.refused2.ensures ∙ u.answered, u.holds)
 
 array-share-prefix-made : tie.Need-array-share-prefix-made
-array-share-prefix-made c = omega (arith, c.if2.false, added-size c.before.add-reference.ensures (omega arith))
+array-share-prefix-made c = omega (arith, c.if2.false, added_size c.before.add-reference.ensures (omega arith))
 
 slice-aggregate-encoding : tie.Need-slice-aggregate-encoding
-slice-aggregate-encoding c = sym (length-take-le _ _ (omega (arith, added-size c.before.before.add-reference.ensures (omega arith))))
+slice-aggregate-encoding c = sym (length-take-le _ _ (omega (arith, added_size c.before.before.add-reference.ensures (omega arith))))
 
 -- what was read is its encoding, and its spans lie inside the lent bytes
 module _ (r : tie.After-read) where
@@ -67,21 +67,21 @@ module _ (r : tie.After-read) where
   within : added.add-reference.result ≤ limits.bytes
   within = omega (arith, r.before.before.if2.left)
 
-  lies : Lie (lent added) (allTexts (said added))
+  lies : Lie (lent added) (all_texts (said added))
   lies = added.add-reference.ensures.good within
 
-  whole : take added.add-reference.result added.add-reference.last.0 ≡ encode (mapParts (taken (lent added)) (said added))
+  whole : take added.add-reference.result added.add-reference.last.0 ≡ encode (map_parts (taken (lent added)) (said added))
   whole = (made (lent added) (said added) refl within added.add-reference.ensures).1
 
-  read_is : read limits (encode (mapParts (taken (lent added)) (said added))) ≡ answerIs r.read.result
+  read_is : read limits (encode (map_parts (taken (lent added)) (said added))) ≡ answer_is r.read.result
   read_is = ap (read limits) (sym whole) ∙ sym r.read.ensures
 
 returns-3 : tie.Need-returns-3
 returns-3 c =
     let r = c.before.before.before.before in
     let p = r.before.before.before in
-    let e = read_is r ∙ ap answerIs c.before.before.refusal.given.1 in
-    let u = right-refused _ 0 (call-refused (lent p) (said p) _ _ (few p) (lies r) e) in
+    let e = read_is r ∙ ap answer_is c.before.before.refusal.given.1 in
+    let u = right_refused _ 0 (call_refused (lent p) (said p) _ _ (few p) (lies r) e) in
     (c.refused3.ensures ∙ u.answered, u.holds)
 
 returns-4 : tie.Need-returns-4
@@ -89,8 +89,8 @@ returns-4 c =
     let t = c.before.before.before.before in
     let r = t.before.before in
     let p = r.before.before.before in
-    let e = read_is r ∙ ap answerIs t.enum_told.given.1 in
-    right-as _ (ap ok (whole r) ∙ sym (call-written (lent p) (said p) _ (few p) (lies r) e)) c.before.before.copied.ensures
+    let e = read_is r ∙ ap answer_is t.enum_told.given.1 in
+    right_as _ (ap ok (whole r) ∙ sym (call_written (lent p) (said p) _ (few p) (lies r) e)) c.before.before.copied.ensures
 
 pub write_spec : {M : Type 1} → statement M
 write_spec =

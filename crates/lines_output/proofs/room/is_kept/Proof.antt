@@ -5,18 +5,18 @@ use borrow.Author.Rules.{rules}
 use Rattle.lines_output.proofs.room.is_kept.Statement.{statement}
 use Rattle.lines_output.proofs.room.is_kept.Tie as tie
 
-abbrev invariant-loop : tie.invariant-loop
-invariant-loop room from i₀ i = from ≤ i
+abbrev invariant_loop : tie.invariant_loop
+invariant_loop room from i₀ i = from ≤ i
 
-abbrev decreases-loop : tie.decreases-loop
-decreases-loop room from i₀ i = length room - i
+abbrev decreases_loop : tie.decreases_loop
+decreases_loop room from i₀ i = length room - i
 
-pub is-kept-spec : {M : Type 1} → statement M
-is-kept-spec =
+pub is_kept_spec : {M : Type 1} → statement M
+is_kept_spec =
     tie.close
     (tie.spec
-    invariant-loop
-    decreases-loop
+    invariant_loop
+    decreases_loop
     (λ c. search rules)
     (λ c. search rules)
     (λ c κs. search rules)

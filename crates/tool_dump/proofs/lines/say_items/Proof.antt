@@ -5,18 +5,18 @@ use borrow.Author.Rules.{rules}
 use Rattle.tool_dump.proofs.lines.say_items.Statement.{statement}
 use Rattle.tool_dump.proofs.lines.say_items.Tie as tie
 
-abbrev invariant-loop : tie.invariant-loop
-invariant-loop s place w₀ w = (w.at ≤ length s) × (w.index ≤ w.at)
+abbrev invariant_loop : tie.invariant_loop
+invariant_loop s place w₀ w = (w.at ≤ length s) × (w.index ≤ w.at)
 
-abbrev decreases-loop : tie.decreases-loop
-decreases-loop s place w₀ w = place - w.at
+abbrev decreases_loop : tie.decreases_loop
+decreases_loop s place w₀ w = place - w.at
 
-pub say-items-spec : {M : Type 1} → statement M
-say-items-spec =
+pub say_items_spec : {M : Type 1} → statement M
+say_items_spec =
     tie.close
     (tie.spec
-    invariant-loop
-    decreases-loop
+    invariant_loop
+    decreases_loop
     (λ c κs. search rules)
     (λ c. search rules)
     (λ c κs. search rules)

@@ -5,18 +5,18 @@ use borrow.Author.Rules.{rules}
 use Rattle.tool_dump.proofs.notation.say_notation.Statement.{statement}
 use Rattle.tool_dump.proofs.notation.say_notation.Tie as tie
 
-abbrev invariant-loop : tie.invariant-loop
-invariant-loop s w₀ t4 w = (w.at ≤ length s) × (w.index ≤ w.at)
+abbrev invariant_loop : tie.invariant_loop
+invariant_loop s w₀ t4 w = (w.at ≤ length s) × (w.index ≤ w.at)
 
-abbrev decreases-loop : tie.decreases-loop
-decreases-loop s w₀ t4 w = length s - w.at
+abbrev decreases_loop : tie.decreases_loop
+decreases_loop s w₀ t4 w = length s - w.at
 
-pub say-notation-spec : {M : Type 1} → statement M
-say-notation-spec =
+pub say_notation_spec : {M : Type 1} → statement M
+say_notation_spec =
     tie.close
     (tie.spec
-    invariant-loop
-    decreases-loop
+    invariant_loop
+    decreases_loop
     (λ c κs. search rules)
     (λ c. search rules)
     (λ c κs. search rules)

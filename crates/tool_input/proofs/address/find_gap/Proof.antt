@@ -5,18 +5,18 @@ use borrow.Author.Rules.{rules}
 use Rattle.tool_input.proofs.address.find_gap.Statement.{statement}
 use Rattle.tool_input.proofs.address.find_gap.Tie as tie
 
-abbrev invariant-loop : tie.invariant-loop
-invariant-loop word i₀ i = i ≤ length word
+abbrev invariant_loop : tie.invariant_loop
+invariant_loop word i₀ i = i ≤ length word
 
-abbrev decreases-loop : tie.decreases-loop
-decreases-loop word i₀ i = length word - i
+abbrev decreases_loop : tie.decreases_loop
+decreases_loop word i₀ i = length word - i
 
-pub find-gap-spec : {M : Type 1} → statement M
-find-gap-spec =
+pub find_gap_spec : {M : Type 1} → statement M
+find_gap_spec =
     tie.close
     (tie.spec
-    invariant-loop
-    decreases-loop
+    invariant_loop
+    decreases_loop
     (λ c. search rules)
     (λ c. search rules)
     (λ c. search rules)

@@ -5,18 +5,18 @@ use borrow.Author.Rules.{rules}
 use Rattle.tool_input.proofs.address.group.Statement.{statement}
 use Rattle.tool_input.proofs.address.group.Tie as tie
 
-abbrev invariant-loop : tie.invariant-loop
-invariant-loop word v₀ i₀ v i = (i ≤ length word) × (v ≤ 65535)
+abbrev invariant_loop : tie.invariant_loop
+invariant_loop word v₀ i₀ v i = (i ≤ length word) × (v ≤ 65535)
 
-abbrev decreases-loop : tie.decreases-loop
-decreases-loop word v₀ i₀ v i = length word - i
+abbrev decreases_loop : tie.decreases_loop
+decreases_loop word v₀ i₀ v i = length word - i
 
-pub group-spec : {M : Type 1} → statement M
-group-spec =
+pub group_spec : {M : Type 1} → statement M
+group_spec =
     tie.close
     (tie.spec
-    invariant-loop
-    decreases-loop
+    invariant_loop
+    decreases_loop
     (λ c. search rules)
     (λ c. search rules)
     (λ c. search rules)

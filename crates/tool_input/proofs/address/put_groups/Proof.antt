@@ -8,21 +8,21 @@ use borrow.Author.Rules.{rules}
 use Rattle.tool_input.proofs.address.put_groups.Statement.{statement}
 use Rattle.tool_input.proofs.address.put_groups.Tie as tie
 
-abbrev invariant-loop : tie.invariant-loop
-invariant-loop room₀ word n₀ at₀ room n at = (at ≤ length word) × (n ≤ 8) × (length room ≡ length room₀)
+abbrev invariant_loop : tie.invariant_loop
+invariant_loop room₀ word n₀ at₀ room n at = (at ≤ length word) × (n ≤ 8) × (length room ≡ length room₀)
 
-abbrev decreases-loop : tie.decreases-loop
-decreases-loop room₀ word n₀ at₀ room n at = 8 - n
+abbrev decreases_loop : tie.decreases_loop
+decreases_loop room₀ word n₀ at₀ room n at = 8 - n
 
-slice-write-room-2 : tie.Need-slice-write-room-2 invariant-loop decreases-loop
-slice-write-room-2 c = simp length-set (omega arith)
+slice_write_room_2 : tie.Need-slice-write-room-2 invariant_loop decreases_loop
+slice_write_room_2 c = simp length-set (omega arith)
 
-pub put-groups-spec : {M : Type 1} → statement M
-put-groups-spec =
+pub put_groups_spec : {M : Type 1} → statement M
+put_groups_spec =
     tie.close
     (tie.spec
-    invariant-loop
-    decreases-loop
+    invariant_loop
+    decreases_loop
     (λ c. search rules)
     (λ c. search rules)
     (λ c κs. search rules)
@@ -42,7 +42,7 @@ put-groups-spec =
     (λ c. search rules)
     (λ c. search rules)
     (λ c. search rules)
-    slice-write-room-2
+    slice_write_room_2
     (λ c. search rules)
     (λ c. search rules)
     (λ c. search rules)

@@ -6,11 +6,11 @@ use borrow.Author.Rules.{rules}
 use Rattle.tool_input.proofs.address.put_ipv6.Statement.{statement}
 use Rattle.tool_input.proofs.address.put_ipv6.Tie as tie
 
-slice-aggregate-put-groups : tie.Need-slice-aggregate-put-groups
-slice-aggregate-put-groups c = sym (length-take-le _ _ (omega arith))
+slice_aggregate_put_groups : tie.Need-slice-aggregate-put-groups
+slice_aggregate_put_groups c = sym (length-take-le _ _ (omega arith))
 
-pub put-ipv6-spec : {M : Type 1} → statement M
-put-ipv6-spec =
+pub put_ipv6_spec : {M : Type 1} → statement M
+put_ipv6_spec =
     tie.close
     (tie.spec
     (λ c κs. search rules)
@@ -20,7 +20,7 @@ put-ipv6-spec =
     (λ c. search rules)
     (λ c κs. search rules)
     (λ c. search rules)
-    slice-aggregate-put-groups
+    slice_aggregate_put_groups
     (λ c κs. search rules)
     (λ c. search rules)
     (λ c. search rules)

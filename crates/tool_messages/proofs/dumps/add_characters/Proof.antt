@@ -5,18 +5,18 @@ use borrow.Author.Rules.{rules}
 use Rattle.tool_messages.proofs.dumps.add_characters.Statement.{statement}
 use Rattle.tool_messages.proofs.dumps.add_characters.Tie as tie
 
-abbrev invariant-loop : tie.invariant-loop
-invariant-loop out₀ used row at₀ i₀ out at i = i ≤ length row
+abbrev invariant_loop : tie.invariant_loop
+invariant_loop out₀ used row at₀ i₀ out at i = i ≤ length row
 
-abbrev decreases-loop : tie.decreases-loop
-decreases-loop out₀ used row at₀ i₀ out at i = length row - i
+abbrev decreases_loop : tie.decreases_loop
+decreases_loop out₀ used row at₀ i₀ out at i = length row - i
 
-pub add-characters-spec : {M : Type 1} → statement M
-add-characters-spec =
+pub add_characters_spec : {M : Type 1} → statement M
+add_characters_spec =
     tie.close
     (tie.spec
-    invariant-loop
-    decreases-loop
+    invariant_loop
+    decreases_loop
     (λ c. search rules)
     (λ c. search rules)
     (λ c κs. search rules)

@@ -5,18 +5,18 @@ use borrow.Author.Rules.{rules}
 use Rattle.tool_messages.proofs.dumps.add_pairs.Statement.{statement}
 use Rattle.tool_messages.proofs.dumps.add_pairs.Tie as tie
 
-abbrev invariant-loop : tie.invariant-loop
-invariant-loop out₀ used row at₀ i₀ out at i = i ≤ length row
+abbrev invariant_loop : tie.invariant_loop
+invariant_loop out₀ used row at₀ i₀ out at i = i ≤ length row
 
-abbrev decreases-loop : tie.decreases-loop
-decreases-loop out₀ used row at₀ i₀ out at i = length row - i
+abbrev decreases_loop : tie.decreases_loop
+decreases_loop out₀ used row at₀ i₀ out at i = length row - i
 
-pub add-pairs-spec : {M : Type 1} → statement M
-add-pairs-spec =
+pub add_pairs_spec : {M : Type 1} → statement M
+add_pairs_spec =
     tie.close
     (tie.spec
-    invariant-loop
-    decreases-loop
+    invariant_loop
+    decreases_loop
     (λ c. search rules)
     (λ c. search rules)
     (λ c κs. search rules)

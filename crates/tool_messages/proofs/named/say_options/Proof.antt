@@ -5,18 +5,18 @@ use borrow.Author.Rules.{rules}
 use Rattle.tool_messages.proofs.named.say_options.Statement.{statement}
 use Rattle.tool_messages.proofs.named.say_options.Tie as tie
 
-abbrev invariant-loop : tie.invariant-loop
-invariant-loop s number₀ at₀ number at = (at ≤ length s) × (number ≤ 65535)
+abbrev invariant_loop : tie.invariant_loop
+invariant_loop s number₀ at₀ number at = (at ≤ length s) × (number ≤ 65535)
 
-abbrev decreases-loop : tie.decreases-loop
-decreases-loop s number₀ at₀ number at = length s - at
+abbrev decreases_loop : tie.decreases_loop
+decreases_loop s number₀ at₀ number at = length s - at
 
-pub say-options-spec : {M : Type 1} → statement M
-say-options-spec =
+pub say_options_spec : {M : Type 1} → statement M
+say_options_spec =
     tie.close
     (tie.spec
-    invariant-loop
-    decreases-loop
+    invariant_loop
+    decreases_loop
     (λ c. search rules)
     (λ c κs. search rules)
     (λ c. search rules)

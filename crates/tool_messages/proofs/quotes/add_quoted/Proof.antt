@@ -5,18 +5,18 @@ use borrow.Author.Rules.{rules}
 use Rattle.tool_messages.proofs.quotes.add_quoted.Statement.{statement}
 use Rattle.tool_messages.proofs.quotes.add_quoted.Tie as tie
 
-abbrev invariant-loop : tie.invariant-loop
-invariant-loop out₀ s at₀ i₀ out at i = i ≤ length s
+abbrev invariant_loop : tie.invariant_loop
+invariant_loop out₀ s at₀ i₀ out at i = i ≤ length s
 
-abbrev decreases-loop : tie.decreases-loop
-decreases-loop out₀ s at₀ i₀ out at i = length s - i
+abbrev decreases_loop : tie.decreases_loop
+decreases_loop out₀ s at₀ i₀ out at i = length s - i
 
-pub add-quoted-spec : {M : Type 1} → statement M
-add-quoted-spec =
+pub add_quoted_spec : {M : Type 1} → statement M
+add_quoted_spec =
     tie.close
     (tie.spec
-    invariant-loop
-    decreases-loop
+    invariant_loop
+    decreases_loop
     (λ c. search rules)
     (λ c. search rules)
     (λ c κs. search rules)

@@ -5,18 +5,18 @@ use borrow.Author.Rules.{rules}
 use Rattle.tool_messages.proofs.quotes.all_printable.Statement.{statement}
 use Rattle.tool_messages.proofs.quotes.all_printable.Tie as tie
 
-abbrev invariant-loop : tie.invariant-loop
-invariant-loop s i₀ i = i ≤ length s
+abbrev invariant_loop : tie.invariant_loop
+invariant_loop s i₀ i = i ≤ length s
 
-abbrev decreases-loop : tie.decreases-loop
-decreases-loop s i₀ i = length s - i
+abbrev decreases_loop : tie.decreases_loop
+decreases_loop s i₀ i = length s - i
 
-pub all-printable-spec : {M : Type 1} → statement M
-all-printable-spec =
+pub all_printable_spec : {M : Type 1} → statement M
+all_printable_spec =
     tie.close
     (tie.spec
-    invariant-loop
-    decreases-loop
+    invariant_loop
+    decreases_loop
     (λ c. search rules)
     (λ c. search rules)
     (λ c κs. search rules)

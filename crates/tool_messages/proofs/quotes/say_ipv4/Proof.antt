@@ -2,36 +2,36 @@
 use native.Mathlib.Omega.{arith}
 use mathlib.Core.Path.{sym}
 use lib.Seq.{length-take-le}
-use Rattle.put.proofs.Wrote.{wrote-length}
-use Rattle.ipv4.proofs.Dotted.{ipv4-fits}
-use Rattle.rules.proofs.Tools.{octets-of}
+use Rattle.put.proofs.Wrote.{wrote_length}
+use Rattle.ipv4.proofs.Dotted.{ipv4_fits}
+use Rattle.rules.proofs.Tools.{octets_of}
 use borrow.Author.Rules.{rules}
 use Rattle.tool_messages.proofs.quotes.say_ipv4.Statement.{statement}
 use Rattle.tool_messages.proofs.quotes.say_ipv4.Tie as tie
 
-put-ipv4-requires : tie.Need-put-ipv4-requires
-put-ipv4-requires c κs =
+put_ipv4_requires : tie.Need-put-ipv4-requires
+put_ipv4_requires c κs =
     let k = c.before.before in
-    let f = ipv4-fits k.before.args.a.now 0 (omega arith) (octets-of k.before.args.a.now (λ i. (k.shared-slice-known.given i).fits)) in
+    let f = ipv4_fits k.before.args.a.now 0 (omega arith) (octets_of k.before.args.a.now (λ i. (k.shared-slice-known.given i).fits)) in
     (omega arith, omega (arith, f))
 
-array-share-prefix-room : tie.Need-array-share-prefix-room
-array-share-prefix-room c =
+array_share_prefix_room : tie.Need-array-share-prefix-room
+array_share_prefix_room c =
     let k = c.before.before.before.before in
-    let f = ipv4-fits k.before.args.a.now 0 (omega arith) (octets-of k.before.args.a.now (λ i. (k.shared-slice-known.given i).fits)) in
-    omega (arith, f, wrote-length c.before.put-ipv4.ensures)
+    let f = ipv4_fits k.before.args.a.now 0 (omega arith) (octets_of k.before.args.a.now (λ i. (k.shared-slice-known.given i).fits)) in
+    omega (arith, f, wrote_length c.before.put-ipv4.ensures)
 
-slice-aggregate-say : tie.Need-slice-aggregate-say
-slice-aggregate-say c = sym (length-take-le _ _ (array-share-prefix-room c.before))
+slice_aggregate_say : tie.Need-slice-aggregate-say
+slice_aggregate_say c = sym (length-take-le _ _ (array_share_prefix_room c.before))
 
-pub say-ipv4-spec : {M : Type 1} → statement M
-say-ipv4-spec =
+pub say_ipv4_spec : {M : Type 1} → statement M
+say_ipv4_spec =
     tie.close
     (tie.spec
     (λ c. search rules)
     (λ c. search rules)
-    put-ipv4-requires
-    array-share-prefix-room
-    slice-aggregate-say
+    put_ipv4_requires
+    array_share_prefix_room
+    slice_aggregate_say
     (λ c κs. search rules)
     (λ c. search rules))

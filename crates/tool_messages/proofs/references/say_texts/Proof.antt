@@ -4,18 +4,18 @@ use borrow.Author.Rules.{rules}
 use Rattle.tool_messages.proofs.references.say_texts.Statement.{statement}
 use Rattle.tool_messages.proofs.references.say_texts.Tie as tie
 
-abbrev invariant-loop : tie.invariant-loop
-invariant-loop s spans first count name from n i₀ i = i ≤ n
+abbrev invariant_loop : tie.invariant_loop
+invariant_loop s spans first count name from n i₀ i = i ≤ n
 
-abbrev decreases-loop : tie.decreases-loop
-decreases-loop s spans first count name from n i₀ i = n - i
+abbrev decreases_loop : tie.decreases_loop
+decreases_loop s spans first count name from n i₀ i = n - i
 
-pub say-texts-spec : {M : Type 1} → statement M
-say-texts-spec =
+pub say_texts_spec : {M : Type 1} → statement M
+say_texts_spec =
     tie.close
     (tie.spec
-    invariant-loop
-    decreases-loop
+    invariant_loop
+    decreases_loop
     (λ c κs. search rules)
     (λ c κs. search rules)
     (λ c κs. search rules)
