@@ -1,4 +1,6 @@
 // Absolute references: scheme and authority are both there.
+#![tactic(auto)]
+
 ghost use Rattle.std.specs.Prelude.{◌≡◌};
 ghost use Rattle.rules.specs.Result.{refused};
 ghost use Rattle.rules.specs.Model.{limits};

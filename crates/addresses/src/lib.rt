@@ -1,4 +1,6 @@
 // The text of an address, IPv4 or IPv6: URI text and Uri-Host have it.
+#![tactic(auto)]
+
 ghost use Rattle.std.specs.Prelude.{◌+◌, ◌^◌, ◌≤◌, ◌<◌, ◌≡◌, length};
 ghost use Rattle.rules.specs.Bytes.{part};
 ghost use Rattle.rules.specs.Address.{address_text};

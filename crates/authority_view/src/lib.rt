@@ -1,4 +1,6 @@
 // The authority of a reference or of its base, as a part of the lent slice that has it.
+#![tactic(auto)]
+
 ghost use Rattle.std.specs.Prelude.{◌≡◌, ◌-◌, ◌≤◌};
 ghost use Rattle.std.proofs.Math.Option.{none};
 ghost use Rattle.rules.specs.Result.{ok};

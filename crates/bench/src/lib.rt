@@ -1,4 +1,6 @@
 // The functions that the measuring program of bench/ calls.
+#![tactic(auto)]
+
 ghost use Rattle.std.specs.Prelude.{◌≡◌, ◌&&◌, ℕ, ◌+◌, ◌*◌, ◌≤◌, length, leb};
 ghost use Rattle.rules.specs.Bytes.{part};
 ghost use Rattle.rules.specs.Utf8.{utf8};

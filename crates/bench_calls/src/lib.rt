@@ -1,4 +1,6 @@
 // The library's calls, as the measuring program of bench/ makes them.
+#![tactic(auto)]
+
 ghost use Rattle.std.specs.Prelude.{◌≡◌, length};
 ghost use Rattle.rules.specs.Model.{limits};
 ghost use Rattle.rules.specs.Calls.{length_of, outcome, after, read_call, resolve_call, text_call, options_call};

@@ -1,4 +1,6 @@
 // The heads of CBOR items (STD 94, section 3), read, and where an item's content stands.
+#![tactic(auto)]
+
 ghost use Rattle.std.specs.Prelude.{◌≡◌, ℕ, ◌+◌, ◌<◌, ◌≤◌, length};
 ghost use Rattle.rules.specs.Bytes.{part, number_from};
 ghost use Rattle.rules.specs.Head.{Kind as Kind·rules, kind_of, width, read_head, Fits};

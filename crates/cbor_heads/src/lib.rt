@@ -1,4 +1,6 @@
 // The heads of CBOR items (STD 94, section 3), written into a lent room, and how long they are.
+#![tactic(auto)]
+
 ghost use Rattle.std.specs.Prelude.{◌≡◌, ◌+◌, ◌≤◌, length};
 ghost use Rattle.rules.specs.Head.{Kind as Kind·rules, shortest, major_of, head_bytes};
 ghost use Rattle.put.specs.Wrote.{Wrote};

@@ -1,4 +1,6 @@
 // Items that stand in a row.
+#![tactic(auto)]
+
 ghost use Rattle.std.specs.Prelude.{◌≡◌};
 ghost use Rattle.rules.specs.Standing.{RowAt};
 ghost use Rattle.cbor_rows.specs.Rows.{nth_at};

@@ -1,4 +1,6 @@
 // The coding of CoAP options: one option, and the options of texts that stand in a row; how long they are, and writing them into a lent room.
+#![tactic(auto)]
+
 ghost use Rattle.std.specs.Prelude.{◌+◌, ◌<◌, ◌≤◌, ◌≡◌, length};
 ghost use Rattle.rules.specs.Bytes.{Bytes, part};
 ghost use Rattle.rules.specs.Model.{limits};

@@ -1,4 +1,6 @@
 // The values of the options of a request: made of what stands in an accepted input, or told by where they stand in it.
+#![tactic(auto)]
+
 ghost use Rattle.std.specs.Prelude.{◌+◌, ◌≤◌, ◌<◌, ◌≡◌, length};
 ghost use Rattle.std.proofs.Math.Option.{get_or};
 ghost use Rattle.rules.specs.Bytes.{Bytes, dot, join};

@@ -1,4 +1,6 @@
 // The components of a CRI reference, and reading them: each text and address as where it stands in lent bytes.
+#![tactic(auto)]
+
 ghost use Rattle.std.specs.Prelude.{◌+◌, ◌≤◌, ◌≡◌, length, get_or};
 ghost use Rattle.std.proofs.Math.Option.{some};
 ghost use Rattle.rules.specs.Bytes.{Bytes};

@@ -1,5 +1,7 @@
 // The library's calls. Each takes any bytes, and answers for all of them what its `ensures` says; the definitions named there are in
 // crates/rules/specs, how components are laid out in crates/components/specs, what a part of a slice is in crates/segment_view/specs.
+#![tactic(auto)]
+
 ghost use Rattle.std.specs.Prelude.{◌≡◌, length};
 ghost use Rattle.rules.specs.Calls.{outcome, after, read_call, write_call, resolve_call, text_call, options_call};
 ghost use Rattle.rules.specs.Model.{limits};

@@ -1,4 +1,6 @@
 // Runs the library's calls on requests, one to a line, and answers each with one line (docs/LINES.md).
+#![tactic(auto)]
+
 ghost use Rattle.std.specs.Prelude.{◌≤◌, length};
 
 use numbers::BYTES;

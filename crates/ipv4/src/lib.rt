@@ -1,4 +1,6 @@
 // An IPv4 address in text, in dotted decimal, written into a lent room; and how long it is.
+#![tactic(auto)]
+
 ghost use Rattle.std.specs.Prelude.{◌+◌, ◌≤◌, ◌≡◌, length};
 ghost use Rattle.rules.specs.Bytes.{part, dot};
 ghost use Rattle.rules.specs.Numeral.{decimal};

@@ -1,4 +1,6 @@
 // An IPv6 address in text, by RFC 5952, written into a lent room; and how long it is.
+#![tactic(auto)]
+
 ghost use Rattle.std.specs.Prelude.{◌+◌, ◌≤◌, ◌<◌, ◌≡◌, length, get_or};
 ghost use Rattle.rules.specs.Bytes.{part, colon};
 ghost use Rattle.rules.specs.Numeral.{digit_byte, numeral};

@@ -1,4 +1,6 @@
 // The words of a request, one after the other, and components given as words: for the program cri_lines alone, so a contract says only what its proofs need.
+#![tactic(auto)]
+
 ghost use Rattle.std.specs.Prelude.{◌≡◌, ◌≤◌, length};
 ghost use Rattle.io.specs.Counts.{IsPrefixLen};
 

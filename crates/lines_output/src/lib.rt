@@ -1,4 +1,6 @@
 // The words of an answer: components, views, and what a call left of its room.
+#![tactic(auto)]
+
 mod room;
 
 use cbor::Span;

@@ -1,4 +1,6 @@
 // The requests. A new one is a function here, a name in `request_of` and a line of `answer`, or of `lend` where it has a room.
+#![tactic(auto)]
+
 use lines_input::{
     Cursor, Fault, ROOM, WORD, finish, is_fault, take_bytes, take_components, take_number,
     take_number_16, take_room,

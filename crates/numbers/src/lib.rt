@@ -1,4 +1,5 @@
 // The numbers of docs/RULES.md: refusals (3.2) and sizes (section 2).
+#![tactic(auto)]
 
 // ---- refusals
 

@@ -1,4 +1,6 @@
 // Numerals without leading zeros written into a lent room, decimal and in lower-case hex, and how long they are.
+#![tactic(auto)]
+
 ghost use Rattle.std.specs.Prelude.{◌+◌, ◌≤◌, ◌<◌, ◌≡◌, length};
 ghost use Rattle.rules.specs.Numeral.{digit_byte, numeral, decimal};
 ghost use Rattle.put.specs.Tables.{Digits};

@@ -1,4 +1,6 @@
 // What a call that writes into a lent room answers, whatever it writes.
+#![tactic(auto)]
+
 ghost use Rattle.std.specs.Prelude.{◌≡◌, length};
 ghost use Rattle.rules.specs.Result.{refused, ok};
 ghost use Rattle.rules.specs.Calls.{length_of, outcome, after};

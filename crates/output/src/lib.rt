@@ -1,4 +1,6 @@
 // What a program prints is gathered in an array, of which the first `used` bytes wait to be written. Each function answers how many wait after it.
+#![tactic(auto)]
+
 ghost use Rattle.std.specs.Prelude.{◌≤◌};
 ghost use Rattle.io.specs.Counts.{IsPrefixLen};
 

@@ -1,4 +1,6 @@
 // Writing pieces into a lent room. Each piece says by `Wrote` what it leaves, and answers the place after it.
+#![tactic(auto)]
+
 ghost use Rattle.std.specs.Prelude.{◌+◌, ◌≤◌, ◌<◌, [], ◌∷◌, length};
 ghost use Rattle.rules.specs.Bytes.{part, big_endian};
 ghost use Rattle.put.specs.Wrote.{Wrote};

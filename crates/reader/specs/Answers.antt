@@ -2,7 +2,7 @@
 use Rattle.std.specs.Prelude.{ℕ, ◌-◌, ◌||◌, length, leb}
 use Rattle.std.proofs.Math.Option.{Option, none, some}
 use Rattle.rules.specs.Bytes.{Bytes}
-use Rattle.rules.specs.Result.{Res, refused, ok, need, ◌>>=◌, ◌>>◌, if◌then◌else◌, TAIL}
+use Rattle.rules.specs.Result.{Res, refused, ok, need, ◌>>=◌, ◌>>◌, when◌then◌else◌, TAIL}
 use Rattle.rules.specs.Model.{Limits, most_parameters}
 use Rattle.rules.specs.Head as H
 use Rattle.rules.specs.Rules.{segment, parameter}
@@ -90,7 +90,7 @@ authority_is (AuthorityV.Refused r) = refusal_is r
 unfoldable pub read_host : Bytes → ℕ → ℕ → ℕ → Res R.AuthorityAt
 read_host bs start at items = do
   h ← H.read_head (λ k. H.is H.ByteString k || H.is H.Text k) bs at
-  if H.is H.Text h.kind then R.labels_host bs start at (items - 1) h else R.address_host bs start at (items - 1) h
+  when H.is H.Text h.kind then R.labels_host bs start at (items - 1) h else R.address_host bs start at (items - 1) h
 
 -- ---- the opening
 

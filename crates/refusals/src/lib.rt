@@ -1,4 +1,5 @@
 // A refusal, as every call tells it.
+#![tactic(auto)]
 
 // The number (crates/numbers says when each is given), and the place: the first byte of the item at fault, or 0 (docs/RULES.md 3.8, 4.10).
 #[derive(Drop)]

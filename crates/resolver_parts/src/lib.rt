@@ -1,4 +1,6 @@
 // Where the parts of a resolved CRI stand. An item that was accepted is the encoding of what it says, so the result is made of parts of the two inputs.
+#![tactic(auto)]
+
 ghost use Rattle.std.specs.Prelude.{◌+◌, ◌-◌, ◌≤◌, ◌<◌, ◌≡◌, true, cond, List, ◌++◌, length, take};
 ghost use Rattle.std.proofs.Math.Option.{none, some};
 ghost use Rattle.rules.specs.Bytes.{Bytes};

@@ -1,4 +1,6 @@
 // Writing a reference that was read gives its bytes again; reading what was written gives its contents again.
+#![tactic(auto)]
+
 ghost use Rattle.std.specs.Prelude.{◌≡◌, length};
 ghost use Rattle.rules.specs.Model.{limits};
 ghost use Rattle.rules.specs.Calls.{outcome, after, read_call};

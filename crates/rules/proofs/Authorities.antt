@@ -10,7 +10,7 @@ use lib.ListN.{length, drop, length-append, length-map}
 use lib.Dec.{leb, eqb, lit≤, lit<}
 use borrow.Author.Tests.{leb-true, le-leb, ltb-true, lt-ltb}
 use Rattle.rules.specs.Bytes.{Bytes, Each, Octets, within, concat}
-use Rattle.rules.specs.Result.{ok, need, ◌>>=◌, ◌>>◌, if◌then◌else◌}
+use Rattle.rules.specs.Result.{ok, need, ◌>>=◌, ◌>>◌, when◌then◌else◌}
 use Rattle.rules.specs.Model.{Host, address, labels, Authority}
 use Rattle.rules.specs.Head.{Kind, Number, ByteString, Text, Array, code_of, is, Head, kind_at, head_at, read_head, head_bytes}
 use Rattle.rules.specs.Rules.{label, name_rule, address_size}
@@ -355,7 +355,7 @@ no_host v bs at rest w r = never (subst (λ (k : Kind). (is ByteString k || is T
 yes_inside : {G : Type 0} (h : Host Bytes) (o : Option ℕ) (bs : Bytes) (start at left : ℕ) (rest : Bytes) → FitHost h → FitPort o → (G → GoodHost h) → (G → GoodPort o)
     → 1 ≤ length (host_items h ++ port_items o) → left ≡ length (host_items h ++ port_items o) - 1 → drop at bs ≡ concat (host_items h ++ port_items o) ++ rest
     → Yes G (λ r. AuthorityWas (record { host = h; port = o }) bs rest r)
-    (read_head (λ k. is ByteString k || is Text k) bs at >>= (λ f. if is Text f.kind then labels_host bs start at left f else address_host bs start at left f))
+    (read_head (λ k. is ByteString k || is Text k) bs at >>= (λ f. when is Text f.kind then labels_host bs start at left f else address_host bs start at left f))
 unfolding host_items code_of port_items
 yes_inside (address x) o bs start at left rest f p good port first n e =
     let w = spelled ByteString (length x) bs at (x ++ (concat (port_items o) ++ rest)) f

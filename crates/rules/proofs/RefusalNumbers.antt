@@ -3,7 +3,7 @@ use Prim.Native.Nat.{ℕ, zero, suc, ◌≤◌}
 use mathlib.Core.Path.{◌≡◌, refl, subst, ◌∙◌}
 use mathlib.Core.Bool.{Bool, true, false}
 use Rattle.rules.specs.Bytes.{Bytes, within}
-use Rattle.rules.specs.Result.{Res, refused, ok, ◌>>=◌, ◌>>◌, need, if◌then◌else◌}
+use Rattle.rules.specs.Result.{Res, refused, ok, ◌>>=◌, ◌>>◌, need, when◌then◌else◌}
 use Rattle.rules.specs.Model.{Limits, Components}
 use Rattle.rules.specs.Head.{Kind, Number, Negative, ByteString, Text, Array, True, Null, Other, Head, read_head}
 use Rattle.rules.specs.Rules.{Sort}
@@ -30,8 +30,8 @@ unfolding ◌>>◌ need
 numbered_need true n k e h = h
 numbered_need false n k e h = number! e
 
-numbered_if : {A : Type 0} (t : Bool) {a b : Res A} → Numbered a → Numbered b → Numbered (if t then a else b)
-unfolding if◌then◌else◌
+numbered_if : {A : Type 0} (t : Bool) {a b : Res A} → Numbered a → Numbered b → Numbered (when t then a else b)
+unfolding when◌then◌else◌
 numbered_if true h g = h
 numbered_if false h g = g
 

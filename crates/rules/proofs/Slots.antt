@@ -164,6 +164,8 @@ yes_array s low high (some ts) bs at (suc n) rest l f good e =
     let w = spelled_texts ts bs at rest f.0 (item_one (texts_item ts) _ _ e) in
     yes_head _ _ _ _ (w.stands (λ k. is Array k || is Null k) refl)
     (yes_else _ _ _ (subst (λ (k : Kind). not (is Null k) ≡ true) (sym w.kind) refl) (yes_array_body s low high ts bs at rest f.1 good w))
+yes_array {G = G} s low high none bs at (suc zero) rest l f good e = elim l [ ]
+yes_array {G = G} s low high (some ts) bs at zero rest l f good e = elim l [ ]
 
 pub yes_fragment : {G : Type 0} (o : Option Bytes) (bs : Bytes) (at left : ℕ) (rest : Bytes)
     → Last left o → If FitText o → (G → If (Good fragment_text) o) → drop at bs ≡ concat (written text_item left o) ++ rest
@@ -178,6 +180,8 @@ yes_fragment (some t) bs at (suc n) rest l f good e =
     yes_head _ _ _ _ (w.stands (λ k. is Text k || is Null k) refl)
     (yes_else _ _ _ (subst (λ (k : Kind). not (is Null k) ≡ true) (sym w.kind) refl)
     (yes_bind _ _ (yes_text_body fragment_text t bs at rest w good) (λ next r. yes! (record { says = ap some r.says; after = r.after }))))
+yes_fragment {G = G} none bs at (suc zero) rest l f good e = elim l [ ]
+yes_fragment {G = G} (some t) bs at zero rest l f good e = elim l [ ]
 
 -- ---- more bytes at the end
 
@@ -209,3 +213,12 @@ tail_three (suc zero) (some p) none none h a b c = (refl, refl)
 tail_three (suc (suc zero)) p (some q) none h a b c = (refl, refl)
 tail_three (suc (suc (suc zero))) p q (some f) h a b c = (refl, refl)
 tail_three (suc (suc (suc (suc n)))) p q f h a b c = absurd (omega arith)
+tail_three zero none none (some f) h a b c = elim c [ ]
+tail_three zero none (some q) f h a b c = elim b [ ]
+tail_three zero (some p) q f h a b c = elim a [ ]
+tail_three (suc zero) none q f h a b c = elim a [ ]
+tail_three (suc zero) (some p) none (some f) h a b c = elim c [ ]
+tail_three (suc zero) (some p) (some q) f h a b c = elim b [ ]
+tail_three (suc (suc zero)) p none f h a b c = elim b [ ]
+tail_three (suc (suc zero)) p (some q) (some f) h a b c = elim c [ ]
+tail_three (suc (suc (suc zero))) p q none h a b c = elim c [ ]

@@ -3,7 +3,7 @@
 use Rattle.std.specs.Prelude.{ℕ, zero, suc, ◌+◌, ◌-◌, Bool, false, ◌&&◌, ◌||◌, not, List, [], ◌∷◌, map, length, ltb, leb, eqb}
 use Rattle.std.proofs.Math.Option.{Option, none, some}
 use Rattle.rules.specs.Bytes.{Bytes, part, within}
-use Rattle.rules.specs.Result.{Res, refused, ok, need, ◌>>=◌, ◌>>◌, if◌then◌else◌, CUT, FORM, LIMIT, TEXT, RULE, TAIL}
+use Rattle.rules.specs.Result.{Res, refused, ok, need, ◌>>=◌, ◌>>◌, when◌then◌else◌, CUT, FORM, LIMIT, TEXT, RULE, TAIL}
 use Rattle.rules.specs.Model.{Span, Limits, most_labels, most_parameters}
 use Rattle.rules.specs.Utf8.{utf8}
 use Rattle.rules.specs.Head.{Kind, Number, Negative, ByteString, Text, Array, True, Null, Other, is, Head, head_at, read_head}
@@ -96,7 +96,7 @@ unfoldable pub read_array : Sort → ℕ → ℕ → Bytes → ℕ → ℕ → R
 read_array s low high bs at zero = ok (record { slot = unset; next = at })
 read_array s low high bs at (suc left) = do
   h ← read_head (λ k. is Array k || is Null k) bs at
-  if is Null h.kind then null_body at left h else array_body s low high bs at h
+  when is Null h.kind then null_body at left h else array_body s low high bs at h
 
 -- a fragment, whose head has been read
 unfoldable pub fragment_body : Bytes → ℕ → Head → Res SlotAt
@@ -109,7 +109,7 @@ unfoldable pub read_fragment : Bytes → ℕ → ℕ → Res SlotAt
 read_fragment bs at zero = ok (record { slot = unset; next = at })
 read_fragment bs at (suc left) = do
   h ← read_head (λ k. is Text k || is Null k) bs at
-  if is Null h.kind then null_body at left h else fragment_body bs at h
+  when is Null h.kind then null_body at left h else fragment_body bs at h
 
 -- ---- authority
 
@@ -163,7 +163,7 @@ unfoldable pub read_names : Bytes → ℕ → ℕ → ℕ → Res Names
 read_names bs at zero n = ok (record { count = n; port = none; next = at })
 read_names bs at (suc left) n = do
   h ← read_head (λ k. is Text k || is Number k) bs at
-  if is Text h.kind then (label_body n bs at h >>= λ next. read_names bs next left (suc n)) else port_body bs at left n h
+  when is Text h.kind then (label_body n bs at h >>= λ next. read_names bs next left (suc n)) else port_body bs at left n h
 
 -- 2.6: an address has 4 or 16 bytes
 unfoldable pub address_host : Bytes → ℕ → ℕ → ℕ → Head → Res AuthorityAt
@@ -187,7 +187,7 @@ read_authority bs at = do
   a ← read_head (is Array) bs at
   need (within 1 9 a.value) LIMIT at
   h ← read_head (λ k. is ByteString k || is Text k) bs a.next
-  if is Text h.kind then labels_host bs at a.next (a.value - 1) h else address_host bs at a.next (a.value - 1) h
+  when is Text h.kind then labels_host bs at a.next (a.value - 1) h else address_host bs at a.next (a.value - 1) h
 
 -- ---- the opening
 

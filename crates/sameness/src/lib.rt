@@ -1,4 +1,6 @@
 // Whether two links are the same CRI: both URI texts are written, and compared.
+#![tactic(auto)]
+
 ghost use Rattle.std.specs.Prelude.{◌≤◌, ◌≡◌, true, ◌↔◌, length};
 ghost use Rattle.rules.specs.Model.{limits};
 ghost use Rattle.rules.specs.Calls.{length_of, after, text_call};

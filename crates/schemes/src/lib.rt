@@ -1,5 +1,7 @@
 // The schemes that have a number (docs/RULES.md, 1.6): the table of their numbers, names and default ports, and the
 // negative integers that carry scheme numbers, -1 - n for the number n.
+#![tactic(auto)]
+
 ghost use Rattle.std.specs.Prelude.{◌≡◌, ◌+◌, ◌≤◌, ◌<◌, ◌^◌, negsuc, length};
 ghost use Rattle.rules.specs.Bytes.{part};
 ghost use Rattle.rules.specs.Rules.{schemes, scheme_in};

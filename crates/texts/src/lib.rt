@@ -1,4 +1,6 @@
 // One text of a CRI reference, judged by its sort, and the rules over all labels of a name.
+#![tactic(auto)]
+
 ghost use Rattle.std.specs.Prelude.{◌≡◌, [], ◌∷◌, ℕ, ◌+◌, ◌≤◌, length};
 ghost use Rattle.rules.specs.Bytes.{part, within, all};
 ghost use Rattle.rules.specs.Head.{Kind};

@@ -1,4 +1,6 @@
 // The arguments of a command of cri_tool, and what is wrong with them.
+#![tactic(auto)]
+
 use numbers::PORT;
 use output::at_most;
 use tool_input::{Destination, Hex};

@@ -1,5 +1,7 @@
 // The commands of cri_tool. What is asked for goes to standard output; a refusal that was not asked for, and what is wrong with the arguments,
 // to standard error. Each command makes a call of the library or two, with room enough for every answer; after a refused base a further one.
+#![tactic(auto)]
+
 use cri::{Outcome, Refusal, Verdict};
 use numbers::{BASE, BYTES, DEST, OPTIONS_ROOM, RESULT, TEXT_ROOM};
 use output::at_most;

@@ -1,4 +1,6 @@
 // A link item by item: where each stands, its bytes, and what it says in words; and the whole in diagnostic notation.
+#![tactic(auto)]
+
 mod lines;
 mod meanings;
 mod notation;

@@ -1,4 +1,6 @@
 // What people type: bytes in hex, upper or lower case and with blanks, and addresses.
+#![tactic(auto)]
+
 ghost use Rattle.std.specs.Prelude.{◌+◌, ◌≤◌, ◌≡◌, length};
 ghost use Rattle.put.specs.Wrote.{Wrote};
 ghost use Rattle.words.specs.Words.{room_after};

@@ -1,4 +1,6 @@
 // What people are told: references, refusals and options in words. Each function writes to standard output or to a descriptor.
+#![tactic(auto)]
+
 mod counts;
 mod dumps;
 mod named;

@@ -1,4 +1,6 @@
 // The URI text of an absolute CRI: read, measured where the room is short, and written part by part.
+#![tactic(auto)]
+
 ghost use Rattle.std.specs.Prelude.{◌+◌, ◌≤◌, ◌≡◌, length, leb};
 ghost use Rattle.rules.specs.Model.{limits};
 ghost use Rattle.rules.specs.Meaning.{said_opening};

@@ -1,4 +1,6 @@
 // Texts written into a lent room with what may not stand bare as "%" and two hex digits, and how long they are then.
+#![tactic(auto)]
+
 ghost use Rattle.std.specs.Prelude.{◌+◌, ◌*◌, ◌≤◌, ◌<◌, ◌^◌, ◌≡◌, ◌⊎◌, length};
 ghost use Rattle.rules.specs.Bytes.{part, all};
 ghost use Rattle.rules.specs.Text.{bare, hex_digit, escape_byte, escape};

@@ -1,4 +1,6 @@
 // Texts that stand in a row, joined by a delimiter and each escaped, after a mark: how long that is, and writing it into a lent room.
+#![tactic(auto)]
+
 ghost use Rattle.std.specs.Prelude.{ℕ, ◌+◌, ◌≤◌, ◌≡◌, ◌∷◌, map, length};
 ghost use Rattle.rules.specs.Bytes.{join};
 ghost use Rattle.rules.specs.Model.{limits};

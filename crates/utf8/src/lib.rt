@@ -1,4 +1,6 @@
 // UTF-8 (RFC 3629): whether a part of a slice is UTF-8.
+#![tactic(auto)]
+
 ghost use Rattle.std.specs.Prelude.{◌≡◌, cond, ◌+◌, ◌≤◌, ◌<◌, length, ltb};
 ghost use Rattle.rules.specs.Bytes.{part, within, all};
 ghost use Rattle.rules.specs.Utf8.{lead_of, utf8};

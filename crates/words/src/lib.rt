@@ -1,4 +1,6 @@
 // The words of a request: bytes in lower-case hex, and decimal numbers.
+#![tactic(auto)]
+
 ghost use Rattle.std.specs.Prelude.{◌≡◌, true, ◌≤◌, length};
 ghost use Rattle.put.specs.Wrote.{Wrote};
 ghost use Rattle.words.specs.Words.{value_of, are_digits, some_digits, decimal_from, if_fits, number_of, pair_bytes, is_dash, if_held, hex_of, room_after};

@@ -1,4 +1,6 @@
 // Writing a CRI reference from components. The encoding is made in an array of its own, judged by the reader, and then copied into the lent room.
+#![tactic(auto)]
+
 ghost use Rattle.std.specs.Prelude.{ℕ, ◌+◌, ◌*◌, ◌≤◌, ◌≡◌, true, List, [], ◌∷◌, map, length, drop};
 ghost use Rattle.std.proofs.Math.Option;
 ghost use Rattle.rules.specs.Bytes.{Bytes, concat};
