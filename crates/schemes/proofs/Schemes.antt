@@ -115,15 +115,19 @@ negated z = pos 0 -ℤ to_z w64 (of_z w64 z)
 
 pub add_fits : (z : ℤ) → Below z → SFits w64 z → SFits w64 (one_more z)
 add_fits (negsuc n) b f = subst (SFits w64) (sym (up n f.sfits)) (negated_fits n f.sfits)
+add_fits (pos _) b f = elim b [ ]
 
 pub sub_fits : (z : ℤ) → Below z → SFits w64 z → SFits w64 (negated (one_more z))
 sub_fits (negsuc n) b f = subst (SFits w64) (sym (over n f.sfits)) (record { sfits = f.sfits })
+sub_fits (pos _) b f = elim b [ ]
 
 pub cast_fits : (z : ℤ) → Below z → SFits w64 z → T (non_neg (to_z w64 (of_z w64 (negated (one_more z))))) × Fits w64 (nat_abs (to_z w64 (of_z w64 (negated (one_more z)))))
 cast_fits (negsuc n) b f = rw (over_read n f.sfits) (tt, record { fits = omega (arith, f.sfits) })
+cast_fits (pos _) b f = elim b [ ]
 
 pub carried : (z : ℤ) → Below z → SFits w64 z → z ≡ negsuc (nat_abs (to_z w64 (of_z w64 (negated (one_more z)))))
 carried (negsuc n) b f = rw (over_read n f.sfits)
+carried (pos _) b f = elim b [ ]
 
 -- the test of the sign
 pub below : (z : ℤ) → lt_z z (pos 0) ≡ true → Below z
