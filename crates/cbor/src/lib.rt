@@ -11,7 +11,7 @@ ghost use Rattle.cbor.specs.Heads.{kind_is, allows, item_is, span_is, accepted, 
 use numbers::{CUT, FORM, HEAD};
 
 // What an item is, by its first byte.
-#[derive(Drop)]
+#[derive(Clone, Copy)]
 pub enum Kind {
     Number,
     Negative,

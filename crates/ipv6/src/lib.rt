@@ -26,7 +26,7 @@ fn group_at(src: &[u8], from: usize, k: usize) -> u16
 }
 
 // Of the groups from one on: how many zeros they begin with, and where the longest run of zeros begins and how long it is.
-#[derive(Drop)]
+#[derive(Clone, Copy)]
 struct Zeros {
     here: usize,
     at: usize,

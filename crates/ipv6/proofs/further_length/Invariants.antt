@@ -1,0 +1,24 @@
+-- `ipv6::further_length` meets its contract: what is left to count is what is left of the groups.
+use Prim.Native.Nat.{ℕ, ◌+◌, ◌-◌, ◌<◌, ◌≤◌, ◌^◌}
+use native.Mathlib.Omega.{arith}
+use mathlib.Core.Path.{ap}
+use mathlib.Core.List.{◌∷◌}
+use lib.ListN.{length}
+use Rattle.rules.specs.Bytes.{part, colon}
+use Rattle.rules.specs.Numeral.{numeral}
+use Rattle.rules.specs.Address.{groups}
+use Rattle.rules.proofs.Tools.{length_part}
+use Rattle.put.specs.Joined.{further}
+use Rattle.put.proofs.Joined.{further_none, further_step}
+use Rattle.put.proofs.Wrote.{Count, count_whole, count_next, counted, count_last}
+use Rattle.ipv6.proofs.Groups.{eight_groups}
+use Rattle.ipv6.proofs.GroupTexts.{further_most}
+use borrow.Author.Rules.{rules}
+use Rattle.ipv6.proofs.further_length.Given as goal
+
+abbrev pub invariant-loop-i : goal.invariant-loop-i
+invariant-loop-i l =
+    (l.i ≤ l.end) × Count l.total (further colon (numeral 16 4) (part (groups (part l.src l.from 16)) l.i (l.end - l.i))) (length (further colon (numeral 16 4) (part (groups (part l.src l.from 16)) l.k l.n)))
+
+abbrev pub decreases-loop-i : goal.decreases-loop-i
+decreases-loop-i l = l.end - l.i
