@@ -5,6 +5,7 @@ use mathlib.Core.Bool.{Bool, true, false, not, ◌||◌}
 use mathlib.Core.List.{List}
 use lib.Dec.{T}
 use types.Run.{OneOf, miss}
+use borrow.Enum.Refused.{Among, opened}
 use mir.Val.{has_key}
 use denote.Enum.Declared.{tag_of}
 use Rattle.rules.specs.Bytes.{Bytes}
@@ -61,5 +62,5 @@ module _ {p : Kind → Bool} {bs : Bytes} {at : ℕ} {r : Item} where
   item_is_lem h g = answered (item_is at) h.answer g
 
   -- it was nothing else
-  pub no_other : {A : Type 0} → Read p bs at r → (tags : List ℕ) → OneOf tags (tag_of the_type r) → Others p tags → A
-  no_other h tags k o = none_other p bs at r tags h.answer k o
+  pub no_other : {A : Type 0} → Read p bs at r → (tags : List ℕ) → Among tags (tag_of the_type r) → Others p tags → A
+  no_other h tags k o = none_other p bs at r tags h.answer (opened k) o

@@ -18,7 +18,7 @@ const DOTTED_BYTES: usize = NAME_BYTES + 1;
 
 // What a text is, which settles its least and greatest length and its rule. That a scheme is none of the names of the table is tested by
 // `scheme_body`, so that no other text pays for it.
-#[derive(Drop)]
+#[derive(Clone, Copy)]
 pub enum Sort {
     SchemeForm,
     Label,

@@ -1,0 +1,20 @@
+-- `reader::names_at` meets its contract: what is left is read from where the last label ended.
+use native.Mathlib.Omega.{arith}
+use Prim.Native.Nat.{◌+◌, ◌≤◌}
+use mathlib.Core.List.{[], ◌∷◌}
+use mathlib.Core.Path.{◌≡◌, refl, sym, ap, ◌∙◌}
+use mathlib.Core.Bool.{◌||◌}
+use Rattle.rules.specs.Head.{Number, Text, code_of, is}
+use Rattle.rules.specs.Reader.{read_names}
+use Rattle.cbor.proofs.Heads.{head_accepted, same_kinds}
+use Rattle.texts.specs.Answers.{step_is}
+use Rattle.reader.proofs.ItemAnswers.{Read, allowed, item_is_lem, no_other}
+use Rattle.reader.proofs.ReaderCases as cases
+use borrow.Author.Rules.{rules}
+use Rattle.reader.proofs.names_at.Given as goal
+
+abbrev pub invariant-loop-left : goal.invariant-loop-left
+invariant-loop-left l = (read_names l.s l.at l.items l.count ≡ read_names l.s l.here l.left l.seen) × (l.seen + l.left ≤ 9)
+
+abbrev pub decreases-loop-left : goal.decreases-loop-left
+decreases-loop-left l = l.left

@@ -1,0 +1,14 @@
+-- `reader::row_at` meets its contract: what is left is read from where the last text ended.
+use mathlib.Core.Path.{◌≡◌, refl, sym, ap, ◌∙◌}
+use native.Mathlib.Omega.{arith}
+use Rattle.rules.specs.Reader.{read_row}
+use Rattle.texts.specs.Answers.{sort_is, step_is}
+use Rattle.reader.proofs.ReaderCases.{texts_next, texts_refused, texts_none}
+use borrow.Author.Rules.{rules}
+use Rattle.reader.proofs.row_at.Given as goal
+
+abbrev pub invariant-loop-left : goal.invariant-loop-left
+invariant-loop-left l = read_row (sort_is l.sort) l.s l.at l.count ≡ read_row (sort_is l.sort) l.s l.here l.left
+
+abbrev pub decreases-loop-left : goal.decreases-loop-left
+decreases-loop-left l = l.left
