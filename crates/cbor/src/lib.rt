@@ -24,7 +24,7 @@ pub enum Kind {
 }
 
 // Which kinds are allowed at a place; `yes` is true.
-#[derive(Drop)]
+#[derive(Clone, Copy)]
 pub struct Kinds {
     pub number: bool,
     pub negative: bool,
@@ -36,7 +36,7 @@ pub struct Kinds {
 }
 
 // An item's head and the position after it; or a refusal's number.
-#[derive(Drop)]
+#[derive(Clone, Copy)]
 pub enum Item {
     // The value.
     Number { value: u64, next: usize },
@@ -214,7 +214,7 @@ pub fn item_at(s: &[u8], at: usize, allowed: Kinds) -> Item
 }
 
 // Where the content of an item stands.
-#[derive(Drop)]
+#[derive(Clone, Copy)]
 pub struct Span {
     pub start: usize,
     pub length: usize,

@@ -23,7 +23,7 @@ use schemes::DefaultPort;
 // ---- which options there are
 
 // What a request says: the values of Uri-Host and Uri-Port, and where the segments and the parameters stand.
-#[derive(Drop)]
+#[derive(Clone, Copy)]
 pub struct Request {
     pub host: Value,
     pub port: Value,
@@ -32,7 +32,7 @@ pub struct Request {
 }
 
 // The difference of each option's number from the one before.
-#[derive(Drop)]
+#[derive(Clone, Copy)]
 pub struct Deltas {
     pub port: usize,
     pub path: usize,

@@ -19,7 +19,7 @@ use put::{put_big_endian, put_byte, put_part};
 use reader::{HostAt, Port, Slot};
 
 // The value of an option that a request has at most once: unset, or how many bytes it has. They stand at the start of a slice.
-#[derive(Drop)]
+#[derive(Clone, Copy)]
 pub enum Value {
     Unset,
     Is(usize),
@@ -117,7 +117,7 @@ pub fn port_value(room: &mut [u8], port: u64, to_port: u64) -> Value
 // ---- Uri-Path and Uri-Query
 
 // Texts that stand in a row: the position of the first, and their count.
-#[derive(Drop)]
+#[derive(Clone, Copy)]
 pub struct Row {
     pub at: usize,
     pub count: usize,

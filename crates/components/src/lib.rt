@@ -28,7 +28,7 @@ use refusals::Verdict;
 pub type Spans = [usize; SPANS];
 
 // Unset; or a scheme's number; or where its text stands.
-#[derive(Drop)]
+#[derive(Clone, Copy)]
 pub enum Scheme {
     Unset,
     Number(u64),
@@ -36,7 +36,7 @@ pub enum Scheme {
 }
 
 // Unset; or where an address stands, and a port; or how many labels there are, and a port.
-#[derive(Drop)]
+#[derive(Clone, Copy)]
 pub enum Authority {
     Unset,
     Address(Span, Port),
@@ -44,7 +44,7 @@ pub enum Authority {
 }
 
 // A discard: how many segments, or all; or a scheme and an authority.
-#[derive(Drop)]
+#[derive(Clone, Copy)]
 pub enum Opening {
     Discard(u64),
     DiscardAll,
@@ -52,20 +52,20 @@ pub enum Opening {
 }
 
 // A path or a query: unset; or how many texts it has.
-#[derive(Drop)]
+#[derive(Clone, Copy)]
 pub enum Texts {
     Unset,
     Set(usize),
 }
 
-#[derive(Drop)]
+#[derive(Clone, Copy)]
 pub enum Fragment {
     Unset,
     Is(Span),
 }
 
 // Labels, segments and parameters are counted here; where they stand is in Spans.
-#[derive(Drop)]
+#[derive(Clone, Copy)]
 pub struct Components {
     pub opening: Opening,
     pub path: Texts,
@@ -74,7 +74,7 @@ pub struct Components {
 }
 
 // Accepted, and the components; or the refusal, and every component unset.
-#[derive(Drop)]
+#[derive(Clone, Copy)]
 pub struct Reading {
     pub verdict: Verdict,
     pub components: Components,

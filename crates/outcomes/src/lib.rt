@@ -11,7 +11,7 @@ use put::put_bytes;
 use refusals::Refusal;
 
 // How many bytes were written; or the refusal, which leaves the room as it was.
-#[derive(Drop)]
+#[derive(Clone, Copy)]
 pub enum Outcome {
     Written(usize),
     Refused(Refusal),

@@ -23,27 +23,27 @@ use texts::{Sort, Step};
 // ---- answers
 
 // Path, query or fragment: unset; or the position of its first text and how many texts it has (of a fragment: of its bytes and how many).
-#[derive(Drop)]
+#[derive(Clone, Copy)]
 pub enum Slot {
     Unset,
     Set { at: usize, count: usize },
 }
 
 // The position of an address and its length; or of the first label and how many labels there are.
-#[derive(Drop)]
+#[derive(Clone, Copy)]
 pub enum HostAt {
     Address { at: usize, length: usize },
     Labels { at: usize, count: usize },
 }
 
-#[derive(Drop)]
+#[derive(Clone, Copy)]
 pub enum Port {
     Unset,
     Is(u64),
 }
 
 // The first byte of an authority, what it says, and the position after it.
-#[derive(Drop)]
+#[derive(Clone, Copy)]
 pub struct AuthorityAt {
     pub at: usize,
     pub host: HostAt,
@@ -52,14 +52,14 @@ pub struct AuthorityAt {
 }
 
 // A scheme's number; or the position of its name and the name's length.
-#[derive(Drop)]
+#[derive(Clone, Copy)]
 pub enum SchemeAt {
     Unset,
     Number(u64),
     Name { at: usize, length: usize },
 }
 
-#[derive(Drop)]
+#[derive(Clone, Copy)]
 pub enum OpeningAt {
     Discard(u64),
     DiscardAll,
@@ -67,7 +67,7 @@ pub enum OpeningAt {
 }
 
 // Where everything stands.
-#[derive(Drop)]
+#[derive(Clone, Copy)]
 pub struct Found {
     pub opening: OpeningAt,
     pub path: Slot,
@@ -76,7 +76,7 @@ pub struct Found {
 }
 
 // What was found; or the refusal.
-#[derive(Drop)]
+#[derive(Clone, Copy)]
 pub enum Answer {
     Is(Found),
     Refused(Refusal),

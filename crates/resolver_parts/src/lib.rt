@@ -17,14 +17,14 @@ use cbor_heads::head_length;
 use reader::{Found, OpeningAt, SchemeAt, Slot};
 
 // A part of the base, and after it one of the reference.
-#[derive(Drop)]
+#[derive(Clone, Copy)]
 pub struct Both {
     pub base: Span,
     pub reference: Span,
 }
 
 // Texts that stand in a row, and how many there are.
-#[derive(Drop)]
+#[derive(Clone, Copy)]
 pub struct RowSpan {
     pub start: usize,
     pub length: usize,
@@ -32,21 +32,21 @@ pub struct RowSpan {
 }
 
 // The segments of a path, and how many there are.
-#[derive(Drop)]
+#[derive(Clone, Copy)]
 pub struct Path {
     pub texts: Both,
     pub count: usize,
 }
 
 // Query and fragment, and how many items they are.
-#[derive(Drop)]
+#[derive(Clone, Copy)]
 pub struct Tail {
     pub items: Both,
     pub count: usize,
 }
 
 // The result; its front is scheme and authority.
-#[derive(Drop)]
+#[derive(Clone, Copy)]
 pub struct Parts {
     pub front: Both,
     pub path: Path,

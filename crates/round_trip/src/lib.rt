@@ -12,7 +12,7 @@ ghost use Rattle.round_trip.specs.Rereading.{Rereads};
 use cri::{Components, Outcome, Reading, Spans, Verdict};
 
 // What writing answered, and what reading answers of the bytes that it wrote.
-#[derive(Drop)]
+#[derive(Clone, Copy)]
 pub struct ReadBack {
     pub written: Outcome,
     pub reading: Reading,

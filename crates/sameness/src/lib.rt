@@ -14,7 +14,7 @@ use numbers::TEXT_ROOM;
 use refusals::Verdict;
 
 // What the two calls answered, and whether both wrote a text and the two texts are equal.
-#[derive(Drop)]
+#[derive(Clone, Copy)]
 pub struct Compared {
     pub first: Outcome,
     pub second: Outcome,
@@ -22,7 +22,7 @@ pub struct Compared {
 }
 
 // Of each link, whether it is accepted as absolute, or the refusal; and whether both are, and are the same CRI.
-#[derive(Drop)]
+#[derive(Clone, Copy)]
 pub struct Judgement {
     pub first: Verdict,
     pub second: Verdict,

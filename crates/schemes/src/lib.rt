@@ -16,14 +16,14 @@ use same_bytes::same_at;
 // ---- scheme ids
 
 // The negative integer that carries a scheme number.
-#[derive(Drop)]
+#[derive(Clone, Copy)]
 pub enum SchemeId {
     Is(i64),
     TooLarge,
 }
 
 // The scheme number that an integer carries.
-#[derive(Drop)]
+#[derive(Clone, Copy)]
 pub enum SchemeNumber {
     Is(u64),
     NotNegative,
@@ -160,7 +160,7 @@ pub fn put_name(room: &mut [u8], at: usize, number: u64) -> usize
 }
 
 // The default port of a scheme number that is in the table.
-#[derive(Drop)]
+#[derive(Clone, Copy)]
 pub enum DefaultPort {
     Is(u64),
     Unknown,

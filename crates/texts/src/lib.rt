@@ -28,7 +28,7 @@ pub enum Sort {
 }
 
 // The position after an item; or a refusal's number, whose place is the item's.
-#[derive(Drop)]
+#[derive(Clone, Copy)]
 pub enum Step {
     Next(usize),
     Refused(u8),

@@ -11,7 +11,7 @@ ghost use Rattle.uri_escape.specs.Escape.{class_is, bit_of, names, entry, Table,
 use put::put_part;
 
 // The part of a URI that a text stands in: it decides which bytes stand bare.
-#[derive(Drop)]
+#[derive(Clone, Copy)]
 pub enum Class {
     Label,
     Segment,

@@ -7,7 +7,7 @@ ghost use Rattle.rules.specs.Utf8.{lead_of, utf8};
 ghost use Rattle.utf8.specs.Answers.{lead_is, second_low, second_high, is_ascii, Passed, Stopped, Followed, Character};
 
 // What a lead byte asks for: how many bytes follow, and from where to where the second byte may be.
-#[derive(Drop)]
+#[derive(Clone, Copy)]
 pub enum Lead {
     Follow(u8, u8, u8),
     Wrong,
