@@ -1,0 +1,22 @@
+-- `coap_values::host_value` meets its contract.
+use native.Mathlib.Omega.{arith}
+use mathlib.Core.Path.{sym, ap, ◌∙◌}
+use Rattle.reader.specs.Answers.{host_of}
+use Rattle.coap_values.proofs.Values.{valued_none, valued_wrote, host_same, host_address, host_labels}
+use borrow.Author.Rules.{rules}
+use Rattle.coap_values.proofs.host_value.Goals as goal
+
+pub returns-then-same_at : goal.returns-then-same_at
+returns-then-same_at c = valued_none (host_same _ _ (ap host_of c.in-Address.is) (sym c.same_at.ensures ∙ c.if-same_at.true))
+
+pub returns-else-same_at : goal.returns-else-same_at
+returns-else-same_at c =
+    let e = ap host_of c.in-Address.is in
+    let h = rw e at c.requires.host_asks in
+    valued_wrote (host_address _ _ e (sym c.same_at.ensures ∙ c.if-same_at.false)) (omega (arith, h.1, c.requires.in_bounds)) h.1 c.put_address.ensures
+
+pub returns-in-Labels : goal.returns-in-Labels
+returns-in-Labels c =
+    let e = ap host_of c.in-Labels.is in
+    let h = rw e at c.requires.host_asks in
+    valued_wrote (host_labels _ _ e) (omega (arith, h.1, c.requires.in_bounds)) h.1 c.put_labels.ensures

@@ -1,0 +1,17 @@
+-- `uri_parts::port_length` meets its contract.
+use native.Mathlib.Omega.{arith}
+use mathlib.Core.Path.{ap}
+use lib.ListN.{length}
+use Rattle.reader.specs.Answers.{port_of}
+use Rattle.uri_parts.proofs.Pieces.{port_none, port_some}
+use borrow.Author.Rules.{rules}
+use Rattle.uri_parts.proofs.port_length.Goals as goal
+
+pub overflow_add-result : goal.overflow_add-result
+overflow_add-result c = omega (arith, c.requires.short, c.decimal_length.ensures, ap length (port_some (ap port_of c.in-Is.is)))
+
+pub returns-in-Unset : goal.returns-in-Unset
+returns-in-Unset c = ap length (port_none (ap port_of c.in-Unset.is))
+
+pub returns-in-Is : goal.returns-in-Is
+returns-in-Is c = omega (arith, c.decimal_length.ensures, ap length (port_some (ap port_of c.in-Is.is)))

@@ -1,0 +1,24 @@
+-- `uri_parts::put_host` meets its contract.
+use native.Mathlib.Omega.{arith}
+use mathlib.Core.Path.{ap}
+use lib.ListN.{length}
+use Rattle.put.proofs.Wrote.{wrote_then, wrote_as, wrote_length}
+use Rattle.reader.specs.Answers.{host_of}
+use Rattle.uri_parts.proofs.Pieces.{host_address, host_labels}
+use borrow.Author.Rules.{rules}
+use Rattle.uri_parts.proofs.put_host.Goals as goal
+
+pub put_address-requires : goal.put_address-requires
+put_address-requires c =
+    let e = ap host_of c.in-Address.is in
+    record { address_at = rw e at c.requires.host_prints; n_in_bounds = omega (arith, c.requires.host_in_bounds, c.put_byte-p.ensures.place, wrote_length c.put_byte-p.ensures, ap length (host_address c.args.s.now e)) }
+
+pub put_row-requires : goal.put_row-requires
+put_row-requires c = let e = ap host_of c.in-Labels.is in
+    record { table = c.requires.table; row_at = rw e at c.requires.host_prints; count_in_bounds = omega (arith, c.requires.host_in_bounds, ap length (host_labels c.args.s.now e)) }
+
+pub returns-in-Address : goal.returns-in-Address
+returns-in-Address c = wrote_as (host_address _ (ap host_of c.in-Address.is)) (wrote_then c.put_byte-p.ensures c.put_address.ensures)
+
+pub returns-in-Labels : goal.returns-in-Labels
+returns-in-Labels c = wrote_as (host_labels _ (ap host_of c.in-Labels.is)) c.put_row.ensures
