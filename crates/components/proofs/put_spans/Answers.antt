@@ -31,3 +31,6 @@ loop-left-preserved c =
 
 pub returns : goal.returns
 returns c = let l = c.loop-left in left_done (rw (no_numbers _ l.next l.left c.loop-left-test.false) at l.invariant.1)
+
+pub bounds-room-o : goal.bounds-room-o
+bounds-room-o c = omega (arith, has_room c)

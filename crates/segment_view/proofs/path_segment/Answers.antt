@@ -18,13 +18,11 @@ returns-in-Unset c = simp c.in-Unset.is
 pub returns-then-n-count : goal.returns-then-n-count
 unfolding given
 returns-then-n-count c =
-    let p = c.path-1.given in
     let s = c.args.s.now in
-    simp (p.1, nth_span s p.0.0 p.0.1.0 _ c.if-n-count.true) (ap ok c.nth_span.ensures)
+    simp (c.in-Set.is, nth_span s c.in-Set.at c.in-Set.count _ c.if-n-count.true) (ap ok c.nth_span.ensures)
 
 pub returns-else-n-count : goal.returns-else-n-count
 unfolding given
 returns-else-n-count c =
-    let p = c.path-1.given in
     let s = c.args.s.now in
-    simp (p.1, no_span s p.0.0 p.0.1.0 _ c.if-n-count.false)
+    simp (c.in-Set.is, no_span s c.in-Set.at c.in-Set.count _ c.if-n-count.false)
