@@ -22,8 +22,7 @@ pub returns-in-Full : goal.returns-in-Full
 unfolding opening_items concat
 returns-in-Full c =
     rw c.in-Full.is
-    (let v = c.opening-in-Full-1.given.0 in
-    let a = c.args in
-    let all = opening_lies a.lent.now (scheme_of v.0) (authority_of a.spans.now v.1.0) in
-    let each = opening_each a.lent.now (scheme_of v.0) (authority_of a.spans.now v.1.0) in
+    (let a = c.args in
+    let all = opening_lies a.lent.now (scheme_of c.in-Full.scheme) (authority_of a.spans.now c.in-Full.authority) in
+    let each = opening_each a.lent.now (scheme_of c.in-Full.scheme) (authority_of a.spans.now c.in-Full.authority) in
     added_as all each (λ _. refl) (added_then c.add_scheme-next.ensures c.add_authority.ensures))

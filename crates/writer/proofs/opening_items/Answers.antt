@@ -13,8 +13,7 @@ use Rattle.writer.proofs.opening_items.Goals as goal
 
 pub overflow_add-result : goal.overflow_add-result
 overflow_add-result c =
-    let v = c.opening-in-Full-1.given.0 in
-    let h = authority_most (map (map_authority (taken [])) (authority_of [] v.1.0)) c.args.further in
+    let h = authority_most (map (map_authority (taken [])) (authority_of [] c.in-Full.authority)) c.args.further in
     omega (arith, c.authority_items.ensures [] [], h)
 
 pub returns-in-Discard : goal.returns-in-Discard
