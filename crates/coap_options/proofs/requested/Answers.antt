@@ -1,0 +1,45 @@
+-- `coap_options::requested` meets its contract.
+use native.Mathlib.Omega.{arith}
+use mathlib.Core.Path.{◌≡◌, refl, ap, ◌∙◌}
+use lib.ListN.{length}
+use Rattle.rules.specs.Bytes.{Bytes}
+use Rattle.put.proofs.Wrote.{wrote_as}
+use Rattle.outcomes.proofs.Answers.{right_full, right_done}
+use Rattle.reader.specs.Answers.{slot_of, host_of}
+use Rattle.coap_options.specs.Requests.{options_at}
+use Rattle.coap_options.proofs.Pieces.{Known, known}
+use borrow.Author.Rules.{rules}
+use Rattle.coap_options.proofs.requested.Goals as goal
+use Rattle.coap_options.proofs.requested.Goals.{After-deltas_of-deltas, After-options_length}
+
+-- the options that are asked for
+abbrev asked : After-deltas_of-deltas → Bytes
+asked d =
+    let a = d.args in
+    options_at a.s.now (host_of a.host) a.port (slot_of a.path) (slot_of a.query) a.to_address.now a.to_port
+
+known_at : (d : After-deltas_of-deltas)
+    → Known d.host_value.new.room d.port_value.new.room d.args.s.now
+    (record { host = d.host_value.result; port = d.port_value.result; path = d.segments.result; query = d.parameters.result }) d.deltas_of-deltas.result
+    (asked d)
+known_at d =
+    let a = d.args in
+    known _ _ _ _ _ d.deltas_of-deltas.ensures (host_of a.host) a.port (slot_of a.path) (slot_of a.query) a.to_address.now a.to_port
+    d.host_value.ensures d.port_value.ensures d.segments.ensures
+    (d.parameters.ensures a.s.now d.requires.texts_ask.1)
+
+-- how long the options are, where they are measured
+long : (o : After-options_length) → o.options_length.result ≡ length (asked (goal.at.After-options_length o).After-deltas_of-deltas)
+long o =
+    let k = known_at (goal.at.After-options_length o).After-deltas_of-deltas in
+    o.options_length.ensures _ _ k.host k.port ∙ ap length k.pieces
+
+pub returns-then-room-options_length : goal.returns-then-room-options_length
+returns-then-room-options_length c =
+    let u = right_full {room = c.args.room.now} (asked (goal.at.returns-then-room-options_length c).After-deltas_of-deltas) refl (omega (arith, c.if-room-options_length.true, long (goal.at.returns-then-room-options_length c).After-options_length)) in
+    record { result_value = c.refused.ensures ∙ u.answered; room_after = u.holds }
+
+pub returns : goal.returns
+returns c =
+    let u = right_done (asked (goal.at.returns c).After-deltas_of-deltas) refl (omega (arith, c.if-room-options_length.false, long (goal.at.returns c).After-options_length)) (wrote_as (known_at (goal.at.returns c).After-deltas_of-deltas).pieces c.put_options.ensures) in
+    record { result_value = u.answered; room_after = u.holds }
