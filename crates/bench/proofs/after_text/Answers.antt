@@ -1,4 +1,5 @@
 -- `bench::after_text` meets its contract.
+use borrow.Enum.Refused.{opened}
 use Prim.Native.Nat.{ℕ}
 use mathlib.Core.Path.{◌≡◌, refl, ap, ◌∙◌}
 use mathlib.Core.List.{[], ◌∷◌}
@@ -15,8 +16,7 @@ use Rattle.cbor.proofs.Heads.{answered, head_accepted, head_never}
 use Rattle.bench.specs.Answers.{after_item}
 use Rattle.bench.proofs.Answers.{text_kind, text_kind_lem, after_text, after_refused}
 use borrow.Author.Rules.{rules}
-use Rattle.bench.proofs.after_text.Statement.{statement}
-use Rattle.bench.proofs.after_text.Tie as tie
+use Rattle.bench.proofs.after_text.Goals as goal
 
 -- what the reader of items answered
 read : (s : Bytes) (at : ℕ) (r i : Item) → item_is at r ≡ read_head (allows text_kind) s at → r ≡ i → item_is at i ≡ read_head (is Text) s at
@@ -34,39 +34,23 @@ other s at (ItemV.True n) e k = head_never (head_accepted e) refl
 other s at (ItemV.Null n) e k = head_never (head_accepted e) refl
 other s at (ItemV.Refused x) e k = absurd (miss (0 ∷ 1 ∷ 2 ∷ 4 ∷ 5 ∷ 6 ∷ []) 7 tt k)
 
-after-content-requires : tie.Need-after-content-requires
-after-content-requires c κs =
-    let i = c.before.before.before in
-    let a = i.before.before.args in
-    (head_accepted (read a.s.now a.at _ _ i.item-at.ensures c.before.n.given.1)).inside
+pub after_content-requires : goal.after_content-requires
+after_content-requires c =
+    let a = c.args in
+    (head_accepted (read a.s.now a.at _ _ c.item_at.ensures c.in-Text.is)).inside
 
-returns : tie.Need-returns
-returns c =
-    let i = c.before.before.before.before in
-    let a = i.before.before.args in
-    c.after-content.ensures a.at ∙ after_text (is Text) _ a.at _ _ (read a.s.now a.at _ _ i.item-at.ensures c.before.before.n.given.1)
+pub returns-in-Text : goal.returns-in-Text
+returns-in-Text c =
+    let a = c.args in
+    c.after_content.ensures a.at ∙ after_text (is Text) _ a.at _ _ (read a.s.now a.at _ _ c.item_at.ensures c.in-Text.is)
 
-returns-2 : tie.Need-returns-2
-returns-2 c =
-    let i = c.before.before.before in
-    let a = i.before.before.args in
-    after_refused (is Text) _ a.at _ (read a.s.now a.at _ _ i.item-at.ensures c.before.k.given.1)
+pub returns-in-Refused : goal.returns-in-Refused
+returns-in-Refused c =
+    let a = c.args in
+    after_refused (is Text) _ a.at _ (read a.s.now a.at _ _ c.item_at.ensures c.in-Refused.is)
 
-returns-3 : tie.Need-returns-3
-returns-3 c =
-    let i = c.before in
-    let a = i.before.before.args in
-    let r = i.item-at.result in
-    other a.s.now a.at r (read a.s.now a.at r r i.item-at.ensures refl) c.match.keys3
-
-pub after-text-spec : {M : Type 1} → statement M
-after-text-spec =
-    tie.close
-    (tie.spec
-    (λ c κs. search rules)
-    (λ c. search rules)
-    after-content-requires
-    (λ c. search rules)
-    returns
-    returns-2
-    returns-3)
+pub returns-in_default : goal.returns-in_default
+returns-in_default c =
+    let a = c.args in
+    let r = c.item_at.result in
+    other a.s.now a.at r (read a.s.now a.at r r c.item_at.ensures refl) (opened c.in_default.in_default-own.keys3)

@@ -1,4 +1,5 @@
 -- `bench::after_label` meets its contract.
+use borrow.Enum.Refused.{opened}
 use Prim.Native.Nat.{ℕ}
 use mathlib.Core.Path.{◌≡◌, refl, ap, ◌∙◌}
 use mathlib.Core.List.{[], ◌∷◌}
@@ -15,8 +16,7 @@ use Rattle.cbor.proofs.Heads.{answered, head_accepted, head_never}
 use Rattle.bench.specs.Answers.{text_or_number, after_item}
 use Rattle.bench.proofs.Answers.{label_kinds, label_kinds_lem, after_text, after_number, after_refused}
 use borrow.Author.Rules.{rules}
-use Rattle.bench.proofs.after_label.Statement.{statement}
-use Rattle.bench.proofs.after_label.Tie as tie
+use Rattle.bench.proofs.after_label.Goals as goal
 
 -- what the reader of items answered
 read : (s : Bytes) (at : ℕ) (r i : Item) → item_is at r ≡ read_head (allows label_kinds) s at → r ≡ i → item_is at i ≡ read_head text_or_number s at
@@ -34,47 +34,28 @@ other s at (ItemV.True n) e k = head_never (head_accepted e) refl
 other s at (ItemV.Null n) e k = head_never (head_accepted e) refl
 other s at (ItemV.Refused x) e k = absurd (miss (1 ∷ 2 ∷ 4 ∷ 5 ∷ 6 ∷ []) 7 tt k)
 
-after-content-requires : tie.Need-after-content-requires
-after-content-requires c κs =
-    let i = c.before.before.before in
-    let a = i.before.before.args in
-    (head_accepted (read a.s.now a.at _ _ i.item-at.ensures c.before.n.given.1)).inside
+pub after_content-requires : goal.after_content-requires
+after_content-requires c =
+    let a = c.args in
+    (head_accepted (read a.s.now a.at _ _ c.item_at.ensures c.in-Text.is)).inside
 
-returns : tie.Need-returns
-returns c =
-    let i = c.before.before.before.before in
-    let a = i.before.before.args in
-    c.after-content.ensures a.at ∙ after_text text_or_number _ a.at _ _ (read a.s.now a.at _ _ i.item-at.ensures c.before.before.n.given.1)
+pub returns-in-Text : goal.returns-in-Text
+returns-in-Text c =
+    let a = c.args in
+    c.after_content.ensures a.at ∙ after_text text_or_number _ a.at _ _ (read a.s.now a.at _ _ c.item_at.ensures c.in-Text.is)
 
-returns-2 : tie.Need-returns-2
-returns-2 c =
-    let i = c.before.before.before in
-    let a = i.before.before.args in
-    after_number text_or_number _ a.at _ _ (read a.s.now a.at _ _ i.item-at.ensures c.before.next.given.1)
+pub returns-in-Number : goal.returns-in-Number
+returns-in-Number c =
+    let a = c.args in
+    after_number text_or_number _ a.at _ _ (read a.s.now a.at _ _ c.item_at.ensures c.in-Number.is)
 
-returns-3 : tie.Need-returns-3
-returns-3 c =
-    let i = c.before.before.before in
-    let a = i.before.before.args in
-    after_refused text_or_number _ a.at _ (read a.s.now a.at _ _ i.item-at.ensures c.before.k.given.1)
+pub returns-in-Refused : goal.returns-in-Refused
+returns-in-Refused c =
+    let a = c.args in
+    after_refused text_or_number _ a.at _ (read a.s.now a.at _ _ c.item_at.ensures c.in-Refused.is)
 
-returns-4 : tie.Need-returns-4
-returns-4 c =
-    let i = c.before in
-    let a = i.before.before.args in
-    let r = i.item-at.result in
-    other a.s.now a.at r (read a.s.now a.at r r i.item-at.ensures refl) c.match.keys4
-
-pub after-label-spec : {M : Type 1} → statement M
-after-label-spec =
-    tie.close
-    (tie.spec
-    (λ c κs. search rules)
-    (λ c. search rules)
-    after-content-requires
-    (λ c. search rules)
-    (λ c. search rules)
-    returns
-    returns-2
-    returns-3
-    returns-4)
+pub returns-in_default : goal.returns-in_default
+returns-in_default c =
+    let a = c.args in
+    let r = c.item_at.result in
+    other a.s.now a.at r (read a.s.now a.at r r c.item_at.ensures refl) (opened c.in_default.in_default-own.keys4)
