@@ -5,7 +5,7 @@ use mathlib.Core.Path.{◌≡◌, refl, sym, ap, ◌∙◌}
 use mathlib.Core.List.{List, [], ◌∷◌, map}
 use mathlib.Core.Option
 use mathlib.Core.Option.{Option, none, some}
-use lib.ListN.{length, take, drop, get_elem?}
+use lib.ListN.{take, drop, get_elem?}
 use lib.Seq.{take_at}
 use Rattle.rules.specs.Bytes.{Bytes, Octets}
 use Rattle.rules.specs.Result.{Res, refused, ok, given, ◌>>=◌, ◌>>◌, NONE}

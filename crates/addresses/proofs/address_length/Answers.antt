@@ -5,7 +5,7 @@ use mathlib.Core.Path.{ap, ◌∙◌}
 use lib.ListN.{length, length-append}
 use Rattle.rules.specs.Address.{ipv6_text, right_bracket}
 use Rattle.rules.specs.Bytes.{part}
-use Rattle.addresses.proofs.AddressTexts.{ipv4_text_lem, ipv6_text_lem, sixteen}
+use Rattle.addresses.proofs.AddressTexts.{ipv4_text_lem, ipv6_text_lem}
 use Rattle.addresses.proofs.address_length.Goals as goal
 
 pub returns-then-n-eq4 : goal.returns-then-n-eq4

@@ -8,7 +8,6 @@ use Rattle.put.proofs.Wrote.{wrote_then, wrote_as, wrote_length}
 use Rattle.rules.specs.Address.{ipv6_text, right_bracket, address_text}
 use Rattle.rules.specs.Bytes.{part}
 use Rattle.addresses.proofs.AddressTexts.{ipv4_text_lem, ipv6_text_lem, sixteen}
-use borrow.Author.Rules.{rules}
 use Rattle.addresses.proofs.put_address.Goals as goal
 use Rattle.addresses.proofs.put_address.Goals.{Start}
 

@@ -1,7 +1,6 @@
 -- `cbor::argument_at` meets its contract: the head information picks the case of `read_argument`.
 use native.Mathlib.Omega.{arith}
 use Rattle.cbor.proofs.Heads.{argument_small, argument_reserved}
-use borrow.Author.Rules.{rules}
 use Rattle.cbor.proofs.argument_at.Goals as goal
 
 pub returns-in-0-to-23 : goal.returns-in-0-to-23

@@ -6,7 +6,6 @@ use Rattle.rules.proofs.Tools.{octets_of}
 use Rattle.cbor.specs.declared.Argument.{Argument}
 use Rattle.cbor.specs.Heads.{kind_is, allows, argument_is}
 use Rattle.cbor.proofs.Heads.{head_missing, head_not_allowed, head_argument, head_fits, answered}
-use borrow.Author.Rules.{rules}
 use Rattle.cbor.proofs.item_at.Goals as goal
 use Rattle.cbor.proofs.item_at.Goals.{After-argument_at}
 

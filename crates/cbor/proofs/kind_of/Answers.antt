@@ -1,7 +1,6 @@
 -- `cbor::kind_of` meets its contract: the tests that led to each return pick the case of `kind_of`.
 use borrow.Author.Tests.{lt-ltb, le-ltb}
 use Rattle.rules.specs.Head.{kind_of}
-use borrow.Author.Rules.{rules}
 use Rattle.cbor.proofs.kind_of.Goals as goal
 
 pub returns-in-0-to-31 : goal.returns-in-0-to-31

@@ -7,7 +7,6 @@ use Rattle.rules.specs.Head.{width}
 use Rattle.rules.proofs.Tools.{octets_of}
 use Rattle.cbor.specs.Heads.{accepted}
 use Rattle.cbor.proofs.Heads.{width_most, argument_cut, argument_less, argument_enough}
-use borrow.Author.Rules.{rules}
 use Rattle.cbor.proofs.long_at.Goals as goal
 
 pub returns-then-s-from : goal.returns-then-s-from

@@ -1,12 +1,9 @@
 -- `cbor::number_at` meets its contract. The loop's invariant: v is the number of the bytes passed, and fits them.
-use Prim.Native.Nat.{◌+◌, ◌-◌, ◌^◌, ◌≤◌, ◌<◌}
+use Prim.Native.Nat.{◌+◌, ◌-◌}
 use native.Mathlib.Omega.{arith}
-use mathlib.Core.Path.{◌≡◌, sym, ap, ◌∙◌}
+use mathlib.Core.Path.{sym, ◌∙◌}
 use lib.ListN.{get_or}
-use Rattle.rules.specs.Bytes.{part, number_from}
-use Rattle.rules.proofs.Tools.{part_whole}
-use Rattle.cbor.proofs.BigEndian.{number_step, number_end, Room, room, none_passed, one_passed}
-use borrow.Author.Rules.{rules}
+use Rattle.cbor.proofs.BigEndian.{number_step, number_end, Room, room, one_passed}
 use Rattle.cbor.proofs.number_at.Goals as goal
 
 pub overflow_mul-v : goal.overflow_mul-v

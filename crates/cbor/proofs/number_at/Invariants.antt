@@ -1,12 +1,7 @@
 -- `cbor::number_at` meets its contract. The loop's invariant: v is the number of the bytes passed, and fits them.
-use Prim.Native.Nat.{◌+◌, ◌-◌, ◌^◌, ◌≤◌, ◌<◌}
-use native.Mathlib.Omega.{arith}
-use mathlib.Core.Path.{◌≡◌, sym, ap, ◌∙◌}
-use lib.ListN.{get_or}
+use Prim.Native.Nat.{◌-◌, ◌^◌, ◌≤◌, ◌<◌}
+use mathlib.Core.Path.{◌≡◌}
 use Rattle.rules.specs.Bytes.{part, number_from}
-use Rattle.rules.proofs.Tools.{part_whole}
-use Rattle.cbor.proofs.BigEndian.{number_step, number_end, Room, room, none_passed, one_passed}
-use borrow.Author.Rules.{rules}
 use Rattle.cbor.proofs.number_at.Given as goal
 
 abbrev pub invariant-loop-i : goal.invariant-loop-i

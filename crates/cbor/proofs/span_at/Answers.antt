@@ -1,8 +1,6 @@
 -- `cbor::span_at` meets its contract.
-use Prim.Native.Nat.{◌+◌}
 use native.Mathlib.Omega.{arith}
 use Rattle.cbor.proofs.Heads.{width_most, item_head, span_small, span_byte, width_byte, span_sized}
-use borrow.Author.Rules.{rules}
 use Rattle.cbor.proofs.span_at.Goals as goal
 
 pub bounds-s-at : goal.bounds-s-at

@@ -5,7 +5,6 @@ use mathlib.Core.Path.{sym, refl, ◌∙◌}
 use Rattle.rules.specs.Head.{width, shortest}
 use Rattle.cbor.proofs.Heads.{width_small}
 use Rattle.cbor_heads.proofs.ShortestHead.{shortest_most, length_head}
-use borrow.Author.Rules.{rules}
 use Rattle.cbor_heads.proofs.head_length.Goals as goal
 
 pub returns-in-24 : goal.returns-in-24

@@ -1,6 +1,5 @@
 -- `cbor_heads::major_of` meets its contract.
 use Rattle.rules.specs.Head.{major_of}
-use borrow.Author.Rules.{rules}
 use Rattle.cbor_heads.proofs.major_of.Goals as goal
 
 pub returns-in-Number : goal.returns-in-Number

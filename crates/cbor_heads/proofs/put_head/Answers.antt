@@ -9,7 +9,6 @@ use Rattle.put.proofs.Wrote.{wrote_then}
 use Rattle.cbor.specs.Heads.{kind_is}
 use Rattle.cbor.proofs.Heads.{width_most}
 use Rattle.cbor_heads.proofs.ShortestHead.{shortest_most, length_head}
-use borrow.Author.Rules.{rules}
 use Rattle.cbor_heads.proofs.put_head.Goals as goal
 use Rattle.cbor_heads.proofs.put_head.Goals.{Start}
 

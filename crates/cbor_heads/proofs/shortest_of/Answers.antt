@@ -1,7 +1,6 @@
 -- `cbor_heads::shortest_of` meets its contract: the tests that led to each return pick the case of `shortest`.
 use native.Mathlib.Omega.{arith}
 use mathlib.Core.Path.{sym}
-use borrow.Author.Rules.{rules}
 use Rattle.cbor.proofs.Heads.{shortest_small, shortest_1, shortest_2, shortest_4, shortest_8}
 use Rattle.cbor_heads.proofs.shortest_of.Goals as goal
 

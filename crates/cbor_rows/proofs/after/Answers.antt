@@ -1,11 +1,7 @@
 -- `cbor_rows::after` meets its contract: `left` items are left to pass.
-use native.Mathlib.Omega.{arith}
-use mathlib.Core.Path.{◌≡◌, refl, sym, ◌∙◌}
-use Rattle.rules.specs.Standing.{RowAt}
-use Rattle.rules.proofs.RowWalk.{First, first, first_stands}
-use Rattle.cbor_rows.specs.Rows.{nth_at}
+use mathlib.Core.Path.{sym, ◌∙◌}
+use Rattle.rules.proofs.RowWalk.{First, first}
 use Rattle.cbor_rows.proofs.Rows.{after_first, after_none}
-use borrow.Author.Rules.{rules}
 use Rattle.cbor_rows.proofs.after.Goals as goal
 use Rattle.cbor_rows.proofs.after.Goals.{After-span_at-span}
 

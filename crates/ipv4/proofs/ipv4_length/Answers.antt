@@ -1,7 +1,6 @@
 -- `ipv4::ipv4_length` meets its contract: the digits of each byte, and three dots.
 use native.Mathlib.Omega.{arith}
 use Rattle.ipv4.proofs.Dotted.{ipv4_lengths}
-use borrow.Author.Rules.{rules}
 use Rattle.ipv4.proofs.ipv4_length.Goals as goal
 
 pub returns : goal.returns

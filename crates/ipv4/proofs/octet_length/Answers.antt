@@ -1,7 +1,6 @@
 -- `ipv4::octet_length` meets its contract: a byte has at most three digits.
 use native.Mathlib.Omega.{arith}
 use Rattle.rules.proofs.Numerals.{decimal_three}
-use borrow.Author.Rules.{rules}
 use Rattle.ipv4.proofs.octet_length.Goals as goal
 
 pub returns : goal.returns

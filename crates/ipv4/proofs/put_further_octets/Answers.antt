@@ -1,5 +1,5 @@
 -- `ipv4::put_further_octets` meets its contract: what is left to write is what is left of the bytes.
-use Prim.Native.Nat.{◌+◌, ◌-◌, ◌≤◌}
+use Prim.Native.Nat.{◌+◌, ◌-◌}
 use native.Mathlib.Omega.{arith}
 use mathlib.Core.List.{◌∷◌}
 use lib.ListN.{get_or}
@@ -7,8 +7,7 @@ use Rattle.rules.specs.Bytes.{part, dot}
 use Rattle.rules.specs.Numeral.{decimal}
 use Rattle.put.specs.Joined.{further}
 use Rattle.put.proofs.Joined.{further_none, further_step}
-use Rattle.put.proofs.Wrote.{Left, Next, left_whole, next, next_room, next_wrote, last, wrote_then}
-use borrow.Author.Rules.{rules}
+use Rattle.put.proofs.Wrote.{Next, next, next_room, next_wrote, last, wrote_then}
 use Rattle.ipv4.proofs.put_further_octets.Goals as goal
 use Rattle.ipv4.proofs.put_further_octets.Goals.{In-loop-i}
 

@@ -1,14 +1,9 @@
 -- `ipv4::put_further_octets` meets its contract: what is left to write is what is left of the bytes.
-use Prim.Native.Nat.{◌+◌, ◌-◌, ◌≤◌}
-use native.Mathlib.Omega.{arith}
-use mathlib.Core.List.{◌∷◌}
-use lib.ListN.{get_or}
+use Prim.Native.Nat.{◌-◌, ◌≤◌}
 use Rattle.rules.specs.Bytes.{part, dot}
 use Rattle.rules.specs.Numeral.{decimal}
 use Rattle.put.specs.Joined.{further}
-use Rattle.put.proofs.Joined.{further_none, further_step}
-use Rattle.put.proofs.Wrote.{Left, Next, left_whole, next, next_room, next_wrote, last, wrote_then}
-use borrow.Author.Rules.{rules}
+use Rattle.put.proofs.Wrote.{Left}
 use Rattle.ipv4.proofs.put_further_octets.Given as goal
 
 abbrev pub invariant-loop-i : goal.invariant-loop-i

@@ -9,7 +9,6 @@ use Rattle.rules.specs.Address.{ipv4_text}
 use Rattle.put.specs.Joined.{further}
 use Rattle.put.proofs.Wrote.{wrote_then}
 use Rattle.ipv4.proofs.Dotted.{ipv4_pieces}
-use borrow.Author.Rules.{rules}
 use Rattle.ipv4.proofs.put_ipv4.Goals as goal
 use Rattle.ipv4.proofs.put_ipv4.Goals.{Start}
 

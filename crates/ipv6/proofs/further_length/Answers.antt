@@ -1,5 +1,5 @@
 -- `ipv6::further_length` meets its contract: what is left to count is what is left of the groups.
-use Prim.Native.Nat.{ℕ, ◌+◌, ◌-◌, ◌<◌, ◌≤◌, ◌^◌}
+use Prim.Native.Nat.{ℕ, ◌+◌, ◌<◌, ◌≤◌, ◌^◌}
 use native.Mathlib.Omega.{arith}
 use mathlib.Core.Path.{ap}
 use mathlib.Core.List.{◌∷◌}
@@ -10,10 +10,9 @@ use Rattle.rules.specs.Address.{groups}
 use Rattle.rules.proofs.Tools.{length_part}
 use Rattle.put.specs.Joined.{further}
 use Rattle.put.proofs.Joined.{further_none, further_step}
-use Rattle.put.proofs.Wrote.{Count, count_whole, count_next, counted, count_last}
+use Rattle.put.proofs.Wrote.{count_next, counted, count_last}
 use Rattle.ipv6.proofs.Groups.{eight_groups}
 use Rattle.ipv6.proofs.GroupTexts.{further_most}
-use borrow.Author.Rules.{rules}
 use Rattle.ipv6.proofs.further_length.Goals as goal
 use Rattle.ipv6.proofs.further_length.Goals.{After-hex_length}
 

@@ -1,19 +1,11 @@
 -- `ipv6::further_length` meets its contract: what is left to count is what is left of the groups.
-use Prim.Native.Nat.{ℕ, ◌+◌, ◌-◌, ◌<◌, ◌≤◌, ◌^◌}
-use native.Mathlib.Omega.{arith}
-use mathlib.Core.Path.{ap}
-use mathlib.Core.List.{◌∷◌}
+use Prim.Native.Nat.{◌-◌, ◌≤◌}
 use lib.ListN.{length}
 use Rattle.rules.specs.Bytes.{part, colon}
 use Rattle.rules.specs.Numeral.{numeral}
 use Rattle.rules.specs.Address.{groups}
-use Rattle.rules.proofs.Tools.{length_part}
 use Rattle.put.specs.Joined.{further}
-use Rattle.put.proofs.Joined.{further_none, further_step}
-use Rattle.put.proofs.Wrote.{Count, count_whole, count_next, counted, count_last}
-use Rattle.ipv6.proofs.Groups.{eight_groups}
-use Rattle.ipv6.proofs.GroupTexts.{further_most}
-use borrow.Author.Rules.{rules}
+use Rattle.put.proofs.Wrote.{Count}
 use Rattle.ipv6.proofs.further_length.Given as goal
 
 abbrev pub invariant-loop-i : goal.invariant-loop-i

@@ -9,7 +9,6 @@ use Rattle.rules.specs.Address.{groups, hex_groups}
 use Rattle.put.specs.Joined.{further}
 use Rattle.ipv6.proofs.Groups.{eight_groups}
 use Rattle.ipv6.proofs.GroupTexts.{no_groups, groups_further}
-use borrow.Author.Rules.{rules}
 use Rattle.ipv6.proofs.groups_length.Goals as goal
 use Rattle.ipv6.proofs.groups_length.Goals.{Else-n-eq0}
 

@@ -3,7 +3,6 @@ use native.Mathlib.Omega.{arith}
 use mathlib.Core.Path.{sym, ap, ◌∙◌}
 use lib.ListN.{length}
 use Rattle.ipv6.proofs.GroupTexts.{HexText, hex_text_lem}
-use borrow.Author.Rules.{rules}
 use Rattle.ipv6.proofs.hex_text_length.Goals as goal
 use Rattle.ipv6.proofs.hex_text_length.Goals.{Start}
 

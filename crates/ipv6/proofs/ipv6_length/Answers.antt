@@ -6,7 +6,6 @@ use lib.ListN.{length}
 use Rattle.rules.specs.Bytes.{part}
 use Rattle.rules.specs.Address.{ipv4_text, ipv6_text}
 use Rattle.ipv6.proofs.Mapped.{mixed_form, hex_form, ipv6_fits}
-use borrow.Author.Rules.{rules}
 use Rattle.ipv6.proofs.ipv6_length.Goals as goal
 use Rattle.ipv6.proofs.ipv6_length.Goals.{Then-is_mapped}
 

@@ -1,15 +1,14 @@
 -- `ipv6::longest_run` meets its contract: what was found is of the groups from k on.
-use Prim.Native.Nat.{◌-◌, ◌≤◌}
+use Prim.Native.Nat.{◌-◌}
 use native.Mathlib.Omega.{arith}
-use mathlib.Core.Path.{◌≡◌, ap, ap₂, ◌∙◌}
+use mathlib.Core.Path.{ap, ap₂, ◌∙◌}
 use lib.ListN.{drop, length-drop}
 use Rattle.rules.specs.Bytes.{part}
 use Rattle.rules.specs.Address.{groups}
 use Rattle.ipv6.specs.declared.Zeros.{Zeros}
-use Rattle.ipv6.specs.Zeros.{with_group, zeros_from}
+use Rattle.ipv6.specs.Zeros.{with_group}
 use Rattle.ipv6.proofs.Groups.{eight_groups}
 use Rattle.ipv6.proofs.ZeroRuns.{walk_first, walk_turn, walk_ahead}
-use borrow.Author.Rules.{rules}
 use Rattle.ipv6.proofs.longest_run.Goals as goal
 
 pub loop-k-init : goal.loop-k-init

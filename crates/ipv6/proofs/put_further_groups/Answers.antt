@@ -8,9 +8,8 @@ use Rattle.rules.specs.Numeral.{numeral}
 use Rattle.rules.specs.Address.{groups}
 use Rattle.put.specs.Joined.{further}
 use Rattle.put.proofs.Joined.{further_none, further_step}
-use Rattle.put.proofs.Wrote.{Left, Next, left_whole, next, next_room, next_wrote, last, wrote_then}
+use Rattle.put.proofs.Wrote.{Next, next, next_room, next_wrote, last, wrote_then}
 use Rattle.ipv6.proofs.Groups.{eight_groups}
-use borrow.Author.Rules.{rules}
 use Rattle.ipv6.proofs.put_further_groups.Goals as goal
 use Rattle.ipv6.proofs.put_further_groups.Goals.{In-loop-i}
 

@@ -1,16 +1,10 @@
 -- `ipv6::put_further_groups` meets its contract: what is left to write is what is left of the groups.
-use Prim.Native.Nat.{◌+◌, ◌-◌, ◌≤◌}
-use native.Mathlib.Omega.{arith}
-use mathlib.Core.List.{◌∷◌}
-use lib.ListN.{length, get_or}
+use Prim.Native.Nat.{◌-◌, ◌≤◌}
 use Rattle.rules.specs.Bytes.{part, colon}
 use Rattle.rules.specs.Numeral.{numeral}
 use Rattle.rules.specs.Address.{groups}
 use Rattle.put.specs.Joined.{further}
-use Rattle.put.proofs.Joined.{further_none, further_step}
-use Rattle.put.proofs.Wrote.{Left, Next, left_whole, next, next_room, next_wrote, last, wrote_then}
-use Rattle.ipv6.proofs.Groups.{eight_groups}
-use borrow.Author.Rules.{rules}
+use Rattle.put.proofs.Wrote.{Left}
 use Rattle.ipv6.proofs.put_further_groups.Given as goal
 
 abbrev pub invariant-loop-i : goal.invariant-loop-i

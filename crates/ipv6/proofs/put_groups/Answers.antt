@@ -11,7 +11,6 @@ use Rattle.put.specs.Joined.{further}
 use Rattle.put.proofs.Wrote.{wrote_none, wrote_then}
 use Rattle.ipv6.proofs.Groups.{eight_groups}
 use Rattle.ipv6.proofs.GroupTexts.{no_groups, some_groups}
-use borrow.Author.Rules.{rules}
 use Rattle.ipv6.proofs.put_groups.Goals as goal
 use Rattle.ipv6.proofs.put_groups.Goals.{Else-n-eq0}
 

@@ -4,7 +4,6 @@ use mathlib.Core.Path.{ap}
 use lib.ListN.{length}
 use Rattle.put.proofs.Wrote.{wrote_then}
 use Rattle.ipv6.proofs.GroupTexts.{HexText, hex_text_lem}
-use borrow.Author.Rules.{rules}
 use Rattle.ipv6.proofs.put_hex_text.Goals as goal
 use Rattle.ipv6.proofs.put_hex_text.Goals.{Start}
 

@@ -8,7 +8,6 @@ use Rattle.rules.specs.Bytes.{ascii, part}
 use Rattle.rules.specs.Address.{ipv4_text, hex_text, ipv6_text}
 use Rattle.put.proofs.Wrote.{wrote_then}
 use Rattle.ipv6.proofs.Mapped.{mixed_form, hex_form}
-use borrow.Author.Rules.{rules}
 use Rattle.ipv6.proofs.put_ipv6.Goals as goal
 use Rattle.ipv6.proofs.put_ipv6.Goals.{Else-is_mapped, Then-is_mapped}
 

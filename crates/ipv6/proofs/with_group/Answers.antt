@@ -2,7 +2,6 @@
 use mathlib.Core.Path.{sym}
 use borrow.Author.Tests.{le-leb, lt-leb}
 use Rattle.ipv6.proofs.ZeroRuns.{walk_here, walk_later}
-use borrow.Author.Rules.{rules}
 use Rattle.ipv6.proofs.with_group.Goals as goal
 
 pub returns-then-z-here : goal.returns-then-z-here

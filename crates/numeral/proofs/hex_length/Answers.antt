@@ -2,7 +2,6 @@
 use native.Mathlib.Omega.{arith}
 use Rattle.rules.proofs.Numerals.{numeral_length}
 use Rattle.numeral.proofs.Scales.{length_hex}
-use borrow.Author.Rules.{rules}
 use Rattle.numeral.proofs.hex_length.Goals as goal
 
 pub overflow_add-result : goal.overflow_add-result

@@ -4,7 +4,6 @@ use native.Mathlib.Omega.{arith}
 use Rattle.put.proofs.Wrote.{wrote_then}
 use Rattle.numeral.specs.Scales.{scaled}
 use Rattle.numeral.proofs.Scales.{decimal_scaled, length_decimal, digit_small}
-use borrow.Author.Rules.{rules}
 use Rattle.numeral.proofs.put_decimal.Goals as goal
 
 pub put_decimal_digit-a-requires : goal.put_decimal_digit-a-requires

@@ -5,7 +5,6 @@ use mathlib.Core.Path.{ap}
 use lib.ListN.{length}
 use Rattle.put.proofs.Wrote.{wrote_none}
 use Rattle.numeral.proofs.Scales.{digit_none, digit_one, digit_small}
-use borrow.Author.Rules.{rules}
 use Rattle.numeral.proofs.put_decimal_digit.Goals as goal
 
 pub returns-then-n-scale : goal.returns-then-n-scale

@@ -5,7 +5,6 @@ use Rattle.put.specs.Tables.{Entries}
 use Rattle.put.proofs.Wrote.{wrote_then}
 use Rattle.numeral.specs.Scales.{scaled}
 use Rattle.numeral.proofs.Scales.{hex_scaled, length_hex}
-use borrow.Author.Rules.{rules}
 use Rattle.numeral.proofs.put_hex.Goals as goal
 
 pub put_hex_digit-a-requires : goal.put_hex_digit-a-requires

@@ -6,7 +6,6 @@ use lib.ListN.{length}
 use Rattle.put.specs.Tables.{Entries}
 use Rattle.put.proofs.Wrote.{wrote_none}
 use Rattle.numeral.proofs.Scales.{digit_none, digit_one}
-use borrow.Author.Rules.{rules}
 use Rattle.numeral.proofs.put_hex_digit.Goals as goal
 
 pub returns-then-n-scale : goal.returns-then-n-scale

@@ -1,12 +1,11 @@
 -- `put::put_big_endian` meets its contract: what is left to write is as many of the lowest bytes.
-use Prim.Native.Nat.{ℕ, suc, ◌-◌, ◌*◌, ◌/◌, ◌%◌, ◌^◌, ◌≤◌, ◌<◌}
+use Prim.Native.Nat.{ℕ, suc, ◌-◌, ◌*◌, ◌/◌, ◌%◌, ◌^◌, ◌<◌}
 use native.Mathlib.Omega.{arith}
 use mathlib.Core.Path.{◌≡◌, ap, ◌∙◌}
 use mathlib.Core.List.{[], ◌∷◌}
 use Rattle.rules.specs.Bytes.{Bytes, big_endian}
 use Rattle.rules.proofs.Heads.{big_high, length_big}
-use Rattle.put.proofs.Wrote.{Left, Next, left_all, left_done, next_room, next_wrote, wrote_one}
-use borrow.Author.Rules.{rules}
+use Rattle.put.proofs.Wrote.{Left, Next, left_done, next_room, next_wrote, wrote_one}
 use Rattle.put.proofs.put_big_endian.Goals as goal
 
 -- one turn: the highest byte that is left

@@ -1,12 +1,9 @@
 -- `put::put_blocks` meets its contract: the first k bytes are written, and then the last eight.
-use Prim.Native.Nat.{◌+◌, ◌-◌, ◌≤◌}
+use Prim.Native.Nat.{◌+◌, ◌-◌}
 use native.Mathlib.Omega.{arith}
-use mathlib.Core.Path.{◌≡◌, refl, ap, ◌∙◌}
-use lib.ListN.{length}
-use lib.Seq.{sets, length-sets}
+use mathlib.Core.Path.{◌≡◌, ap}
 use Rattle.rules.specs.Bytes.{part}
-use Rattle.put.proofs.Wrote.{wrote_as, wrote_length, wrote_over}
-use borrow.Author.Rules.{rules}
+use Rattle.put.proofs.Wrote.{wrote_as, wrote_over}
 use Rattle.put.proofs.put_blocks.Goals as goal
 
 pub loop-k-preserved : goal.loop-k-preserved

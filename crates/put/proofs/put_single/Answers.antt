@@ -1,12 +1,11 @@
 -- `put::put_single` meets its contract: what is left to write is what is left of the part.
-use Prim.Native.Nat.{◌+◌, ◌-◌, ◌≤◌}
+use Prim.Native.Nat.{◌+◌, ◌-◌}
 use native.Mathlib.Omega.{arith}
 use mathlib.Core.Path.{refl}
 use mathlib.Core.List.{[], ◌∷◌}
 use lib.ListN.{get_or}
 use Rattle.rules.specs.Bytes.{part}
-use Rattle.rules.proofs.Tools.{length_part}
-use Rattle.put.proofs.Wrote.{Left, Next, left_whole, next, next_room, next_wrote, last, wrote_one}
+use Rattle.put.proofs.Wrote.{Next, next, next_wrote, wrote_one}
 use Rattle.put.proofs.put_single.Goals as goal
 use Rattle.put.proofs.put_single.Goals.{In-loop-i}
 

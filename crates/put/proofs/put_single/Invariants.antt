@@ -1,12 +1,7 @@
 -- `put::put_single` meets its contract: what is left to write is what is left of the part.
-use Prim.Native.Nat.{◌+◌, ◌-◌, ◌≤◌}
-use native.Mathlib.Omega.{arith}
-use mathlib.Core.Path.{refl}
-use mathlib.Core.List.{[], ◌∷◌}
-use lib.ListN.{get_or}
+use Prim.Native.Nat.{◌-◌, ◌≤◌}
 use Rattle.rules.specs.Bytes.{part}
-use Rattle.rules.proofs.Tools.{length_part}
-use Rattle.put.proofs.Wrote.{Left, Next, left_whole, next, next_room, next_wrote, last, wrote_one}
+use Rattle.put.proofs.Wrote.{Left}
 use Rattle.put.proofs.put_single.Given as goal
 
 abbrev pub invariant-loop-i : goal.invariant-loop-i

@@ -1,7 +1,5 @@
 -- `same_bytes::same_at` meets its contract. The loop's invariant: what is left is compared as the whole is.
-use Prim.Native.Nat.{◌-◌}
-use Rattle.same_bytes.proofs.SameBytes.{Compared, compared_other, compared_none, compared_next, compared_no, compared_all}
-use borrow.Author.Rules.{rules}
+use Rattle.same_bytes.proofs.SameBytes.{compared_other, compared_next, compared_no}
 use Rattle.same_bytes.proofs.same_at.Goals as goal
 
 pub returns-then-n-t : goal.returns-then-n-t

@@ -1,7 +1,6 @@
 -- `same_bytes::same_at` meets its contract. The loop's invariant: what is left is compared as the whole is.
 use Prim.Native.Nat.{◌-◌}
-use Rattle.same_bytes.proofs.SameBytes.{Compared, compared_other, compared_none, compared_next, compared_no, compared_all}
-use borrow.Author.Rules.{rules}
+use Rattle.same_bytes.proofs.SameBytes.{Compared}
 use Rattle.same_bytes.proofs.same_at.Given as goal
 
 abbrev pub invariant-loop-i : goal.invariant-loop-i

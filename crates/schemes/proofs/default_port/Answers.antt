@@ -4,7 +4,6 @@ use mathlib.Core.Option.{some, map}
 use Rattle.rules.specs.Rules.{SchemeEntry, schemes, scheme_in}
 use Rattle.schemes.specs.Schemes.{default_port}
 use Rattle.schemes.proofs.Table.{no_name, port_of_lem}
-use borrow.Author.Rules.{rules}
 use Rattle.schemes.proofs.default_port.Goals as goal
 
 pub returns-then-entry-eq0 : goal.returns-then-entry-eq0

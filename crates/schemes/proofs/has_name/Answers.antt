@@ -9,7 +9,6 @@ use Rattle.put.proofs.Wrote.{wrote_length, wrote_taken}
 use Rattle.same_bytes.proofs.SameBytes.{compared_other}
 use Rattle.schemes.specs.Schemes.{same_name}
 use Rattle.schemes.proofs.Table.{name_most, no_name, same_entry}
-use borrow.Author.Rules.{rules}
 use Rattle.schemes.proofs.has_name.Goals as goal
 use Rattle.schemes.proofs.has_name.Goals.{After-name-2-1}
 

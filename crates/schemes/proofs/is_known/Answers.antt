@@ -7,7 +7,6 @@ use mir.Val.{to_z, of_z}
 use mir.Facts.{to_z-of_z}
 use Rattle.schemes.specs.Schemes.{known_id}
 use Rattle.schemes.proofs.Table.{known_entry}
-use borrow.Author.Rules.{rules}
 use Rattle.schemes.proofs.is_known.Goals as goal
 
 pub returns : goal.returns

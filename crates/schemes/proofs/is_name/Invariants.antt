@@ -1,15 +1,11 @@
 -- `schemes::is_name` meets its contract. The loop's invariant: the text is the name of no number passed.
 use Prim.Native.Nat.{ℕ, ◌+◌, ◌-◌, ◌≤◌, ◌<◌}
-use native.Mathlib.Omega.{arith}
-use mathlib.Core.Path.{◌≡◌, sym, ◌∙◌}
+use mathlib.Core.Path.{◌≡◌}
 use mathlib.Core.Bool.{false}
 use lib.ListN.{length}
-use borrow.Author.Count.{below_more}
 use Rattle.rules.specs.Bytes.{part}
 use Rattle.rules.specs.Rules.{schemes, scheme_in}
-use Rattle.schemes.specs.Schemes.{same_name, known_name}
-use Rattle.schemes.proofs.Table.{name_found, no_name_found}
-use borrow.Author.Rules.{rules}
+use Rattle.schemes.specs.Schemes.{same_name}
 use Rattle.schemes.proofs.is_name.Given as goal
 
 abbrev pub invariant-loop-number : goal.invariant-loop-number

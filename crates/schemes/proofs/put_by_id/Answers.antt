@@ -1,7 +1,6 @@
 -- `schemes::put_by_id` meets its contract: of each id in the table, and of any other.
 use Rattle.rules.specs.Rules.{schemes, scheme_in}
 use Rattle.schemes.proofs.Table.{entry_none, entry_at, no_entry}
-use borrow.Author.Rules.{rules}
 use Rattle.schemes.proofs.put_by_id.Goals as goal
 
 pub returns-in-minus1 : goal.returns-in-minus1

@@ -1,7 +1,6 @@
 -- `schemes::put_by_number` meets its contract: by whether 64 bits hold the id.
 use mathlib.Core.Path.{sym, ◌∙◌}
-use Rattle.schemes.proofs.Table.{entry_as, entry_none, id_entry, too_large_entry}
-use borrow.Author.Rules.{rules}
+use Rattle.schemes.proofs.Table.{entry_none, too_large_entry}
 use Rattle.schemes.proofs.put_by_number.Goals as goal
 
 pub returns-in-TooLarge : goal.returns-in-TooLarge

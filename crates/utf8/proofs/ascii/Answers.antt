@@ -1,8 +1,7 @@
 -- `utf8::ascii` meets its contract. The loop's invariant: all are ASCII where the largest passed is, and those that are left are.
-use Prim.Native.Nat.{ℕ, ◌+◌, ◌-◌, ◌≤◌}
-use mathlib.Core.Path.{◌≡◌, sym, ap, ap₂, ◌∙◌}
+use Prim.Native.Nat.{ℕ, ◌+◌, ◌-◌}
+use mathlib.Core.Path.{sym, ap, ◌∙◌}
 use mathlib.Core.Bool.{◌&&◌}
-use lib.ListN.{length}
 use lib.Dec.{ltb}
 use borrow.Author.Rules.{rules}
 use native.Mathlib.Omega.{arith}

@@ -1,14 +1,11 @@
 -- `utf8::ascii` meets its contract. The loop's invariant: all are ASCII where the largest passed is, and those that are left are.
-use Prim.Native.Nat.{ℕ, ◌+◌, ◌-◌, ◌≤◌}
-use mathlib.Core.Path.{◌≡◌, sym, ap, ap₂, ◌∙◌}
+use Prim.Native.Nat.{◌+◌, ◌-◌, ◌≤◌}
+use mathlib.Core.Path.{◌≡◌}
 use mathlib.Core.Bool.{◌&&◌}
 use lib.ListN.{length}
 use lib.Dec.{ltb}
-use borrow.Author.Rules.{rules}
-use native.Mathlib.Omega.{arith}
 use Rattle.rules.specs.Bytes.{part, all}
 use Rattle.utf8.specs.Answers.{is_ascii}
-use Rattle.utf8.proofs.Utf8Walk.{ascii_turn, ascii_end}
 use Rattle.utf8.proofs.ascii.Given as goal
 
 abbrev pub invariant-loop-k : goal.invariant-loop-k

@@ -4,7 +4,6 @@ use native.Mathlib.Omega.{arith}
 use Rattle.utf8.specs.Answers.{lead_is}
 use Rattle.utf8.proofs.Leads.{three_follow}
 use Rattle.utf8.proofs.Utf8Walk.{lead_wrong, no_character, one_byte, no_end, a_character}
-use borrow.Author.Rules.{rules}
 use Rattle.utf8.proofs.char_at.Goals as goal
 
 pub returns-in-Wrong : goal.returns-in-Wrong

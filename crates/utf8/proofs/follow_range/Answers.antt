@@ -1,11 +1,7 @@
 -- `utf8::follow_range` meets its contract. The loop's invariant: what is left is judged as the whole is.
-use Prim.Native.Nat.{ℕ, ◌+◌, ◌-◌, ◌≤◌}
-use mathlib.Core.Path.{◌≡◌, sym, ap₂, ◌∙◌}
-use lib.ListN.{length}
+use mathlib.Core.Path.{sym, ◌∙◌}
 use borrow.Author.Rules.{rules}
 use native.Mathlib.Omega.{arith}
-use Rattle.rules.specs.Bytes.{part}
-use Rattle.rules.specs.Utf8.{utf8_from}
 use Rattle.utf8.proofs.Utf8Walk.{follow_turn, followed_cut, followed_stop, followed_all}
 use Rattle.utf8.proofs.follow_range.Goals as goal
 

@@ -3,7 +3,6 @@ use native.Mathlib.Omega.{arith}
 use mathlib.Core.Path.{ap₂, ◌∙◌}
 use Rattle.rules.specs.Utf8.{follow}
 use Rattle.utf8.proofs.Leads.{lead_one, lead_none, lead_two, lead_three, lead_four, lead_over}
-use borrow.Author.Rules.{rules}
 use Rattle.utf8.proofs.lead_of.Goals as goal
 
 pub returns-in-0-to-127 : goal.returns-in-0-to-127

@@ -1,10 +1,7 @@
 -- `utf8::skip` meets its contract. The loop's invariant: the position is one that may be passed to.
-use Prim.Native.Nat.{◌-◌, ◌≤◌, ◌<◌}
 use mathlib.Core.Path.{sym, ◌∙◌}
-use lib.ListN.{length}
 use native.Mathlib.Omega.{arith}
-use Rattle.utf8.specs.Answers.{Passed}
-use Rattle.utf8.proofs.Utf8Walk.{passed_none, passed_ascii}
+use Rattle.utf8.proofs.Utf8Walk.{passed_ascii}
 use borrow.Author.Rules.{rules}
 use Rattle.utf8.proofs.skip.Goals as goal
 

@@ -2,7 +2,6 @@
 use native.Mathlib.Omega.{arith}
 use mathlib.Core.Path.{sym, ◌∙◌}
 use Rattle.utf8.proofs.Utf8Walk.{passed_last}
-use borrow.Author.Rules.{rules}
 use Rattle.utf8.proofs.skip_last.Goals as goal
 
 pub returns-then-ascii : goal.returns-then-ascii

@@ -1,10 +1,7 @@
 -- `utf8::skip_others` meets its contract. The loop's invariant: the position is one that may be passed to.
 use Prim.Native.Nat.{◌-◌, ◌≤◌}
 use lib.ListN.{length}
-use native.Mathlib.Omega.{arith}
 use Rattle.utf8.specs.Answers.{Passed}
-use Rattle.utf8.proofs.Utf8Walk.{passed_none, passed_character, refused_here}
-use borrow.Author.Rules.{rules}
 use Rattle.utf8.proofs.skip_others.Given as goal
 
 abbrev pub invariant-loop-i : goal.invariant-loop-i

@@ -1,10 +1,7 @@
 -- `utf8::valid` meets its contract. The loop's invariant: what is left is judged as the whole is.
-use Prim.Native.Nat.{ℕ, ◌+◌, ◌-◌, ◌≤◌}
-use mathlib.Core.Path.{◌≡◌, sym, ap, ◌∙◌}
-use lib.ListN.{length}
+use Prim.Native.Nat.{◌+◌}
+use mathlib.Core.Path.{sym, ◌∙◌}
 use native.Mathlib.Omega.{arith}
-use Rattle.rules.specs.Bytes.{part}
-use Rattle.rules.specs.Utf8.{utf8}
 use Rattle.utf8.proofs.Utf8Walk.{ascii_byte, nothing_left}
 use borrow.Author.Rules.{rules}
 use Rattle.utf8.proofs.valid.Goals as goal
