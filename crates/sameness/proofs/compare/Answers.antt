@@ -11,11 +11,10 @@ use borrow.Author.Rules.{rules}
 use Rattle.sameness.proofs.compare.Goals as goal
 
 pub wrote_same-requires : goal.wrote_same-requires
-wrote_same-requires c =
-    (
-      length_inside (record { answered = c.uri_text-one.ensures.result_value; holds = c.uri_text-one.ensures.room_after }),
-      length_inside (record { answered = c.uri_text-other.ensures.result_value; holds = c.uri_text-other.ensures.room_after }),
-    )
+wrote_same-requires c = (
+  length_inside (record { answered = c.uri_text-one.ensures.result_value; holds = c.uri_text-one.ensures.room_after }),
+  length_inside (record { answered = c.uri_text-other.ensures.result_value; holds = c.uri_text-other.ensures.room_after }),
+)
 
 pub returns : goal.returns
 returns c =
