@@ -1,2 +1,3 @@
--- The laws of rows of items.
+-- The laws of rows of items that callers use, and the laws of the walk.
 pub mod Rows
+mod RowEnds

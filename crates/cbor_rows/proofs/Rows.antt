@@ -1,7 +1,6 @@
 -- The items of a row: the first n of them, the n-th, and the position after them.
-use Prim.Native.Nat.{ℕ, zero, suc, ◌+◌, ◌-◌, ◌≤◌, ◌<◌}
+use Prim.Native.Nat.{ℕ, zero, suc, ◌≤◌, ◌<◌}
 use native.Mathlib.Omega.{arith}
-use native.Mathlib.Numerals.{sub-one}
 use mathlib.Core.Path.{◌≡◌, refl, ap}
 use mathlib.Core.List.{List, ◌∷◌}
 use mathlib.Core.Option.{none, some}
@@ -9,7 +8,6 @@ use lib.ListN.{take, get_elem?}
 use Rattle.rules.specs.Bytes.{Bytes}
 use Rattle.rules.specs.Reader.{span_at, end_at, spans, contents, content_at}
 use Rattle.rules.specs.Standing.{ItemStands, RowAt}
-use Rattle.rules.proofs.RowWalk.{First}
 use Rattle.cbor_rows.specs.Rows.{nth_at}
 
 -- the first of them
@@ -44,15 +42,3 @@ unfolding spans
 no_span bs at zero n h = refl
 no_span bs at (suc count) zero h = absurd (omega arith)
 no_span bs at (suc count) (suc n) h = no_span bs (end_at bs at) count n (omega arith)
-
--- the position after them: past the first, as many less one
-pub after_first : {bs : Bytes} {here start n : ℕ} (left : ℕ) → 0 < left → First bs here left start n → nth_at bs (start + n) (left - 1) ≡ nth_at bs here left
-unfolding nth_at
-after_first zero h w = absurd (omega arith)
-after_first {bs} (suc left) h w = simp sub-one (ap (λ (p : ℕ). nth_at bs p left) w.end)
-
--- past none
-pub after_none : (bs : Bytes) (here left : ℕ) → left ≤ 0 → nth_at bs here left ≡ here
-unfolding nth_at
-after_none bs here zero h = refl
-after_none bs here (suc left) h = absurd (omega arith)

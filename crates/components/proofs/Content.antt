@@ -20,7 +20,7 @@ use Rattle.components.specs.declared.Texts.{Texts}
 use Rattle.components.specs.declared.Texts.TheVariants as TextsV
 use Rattle.components.specs.Content.{numbered_span, spans_of, scheme_of, authority_of, opening_of, texts_of, fragment_of, label_count, text_count, components_of}
 use Rattle.components.specs.Layout.{scheme_laid, port_laid, host_laid, opening_laid, texts_laid, fragment_laid, components_laid, span_numbers, text_numbers}
-use Rattle.components.proofs.SpanNumbers.{length_numbers}
+use Rattle.components.proofs.Filling.{length_numbers}
 
 -- a port is laid out as the reader has it
 pub port_laid_lem : (p : Port) → p ≡ port_laid (port_of p)

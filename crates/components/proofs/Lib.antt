@@ -1,2 +1,2 @@
 pub mod Content
-mod SpanNumbers
+mod Filling

@@ -5,20 +5,16 @@ use mathlib.Core.Bool.{Bool, true, false, not, ◌||◌}
 use mathlib.Core.List.{List}
 use lib.Dec.{T}
 use types.Run.{OneOf, miss}
-use borrow.Enum.Refused.{Among, opened}
 use mir.Val.{has_key}
 use denote.Enum.Declared.{tag_of}
 use Rattle.rules.specs.Bytes.{Bytes}
 use Rattle.rules.specs.Head.{Kind, Number, Negative, ByteString, Text, Array, True, Null, read_head}
+use Rattle.cbor.specs.declared.Kinds.{Kinds}
 use Rattle.cbor.specs.declared.Item.{Item}
 use Rattle.cbor.specs.declared.Item.TheVariants as ItemV
 use Rattle.cbor.specs.contracts.Item.{the_type}
-use Rattle.cbor.specs.Heads.{item_is}
+use Rattle.cbor.specs.Heads.{allows, item_is}
 use Rattle.cbor.proofs.Heads.{answered, head_accepted, head_never}
-
--- this was answered at a position where the kinds of p are allowed
-pub record Read (p : Kind → Bool) (bs : Bytes) (at : ℕ) (r : Item) : Type 0 where
-  pub answer : item_is at r ≡ read_head p bs at
 
 -- a kind is not in a `match`'s last arm, or it is not allowed
 abbrev left_out : List ℕ → ℕ → Bool → Bool
@@ -52,15 +48,11 @@ none_other p bs at (ItemV.True n) tags h k o = either (has_key tags 5) (p True) 
 none_other p bs at (ItemV.Null n) tags h k o = either (has_key tags 6) (p Null) o.6 (λ m. absurd (miss tags 6 m k)) (λ f. head_never (head_accepted h) f)
 none_other p bs at (ItemV.Refused x) tags h k o = absurd (miss tags 7 o.7 k)
 
-module _ {p : Kind → Bool} {bs : Bytes} {at : ℕ} {r : Item} where
-  -- the kinds that the code allows are those
-  pub allowed : {q : Kind → Bool} → q ≡ p → item_is at r ≡ read_head q bs at → Read p bs at r
-  allowed may e = record { answer = e ∙ ap (λ q. read_head q bs at) may }
-
+module _ {p : Kind → Bool} (bs : Bytes) (at : ℕ) (ks : Kinds) (r : Item) (may : allows ks ≡ p) (e : item_is at r ≡ read_head (allows ks) bs at) where
   -- it was this
-  pub item_is_lem : {i : Item} → Read p bs at r → r ≡ i → item_is at i ≡ read_head p bs at
-  item_is_lem h g = answered (item_is at) h.answer g
+  pub item_is_lem : {i : Item} → r ≡ i → item_is at i ≡ read_head p bs at
+  item_is_lem g = answered (item_is at) e g ∙ ap (λ q. read_head q bs at) may
 
   -- it was nothing else
-  pub no_other : {A : Type 0} → Read p bs at r → (tags : List ℕ) → Among tags (tag_of the_type r) → Others p tags → A
-  no_other h tags k o = none_other p bs at r tags h.answer (opened k) o
+  pub no_other : {A : Type 0} (tags : List ℕ) → OneOf tags (tag_of the_type r) → Others p tags → A
+  no_other tags k o = none_other p bs at r tags (item_is_lem refl) k o

@@ -141,68 +141,124 @@ enum Opened {
 
 // ---- the kinds of items that are allowed at a place
 
-// No kind, which each set adds its own to.
-const NONE: Kinds = Kinds {
-    number: false,
-    negative: false,
-    byte_string: false,
-    text: false,
-    array: false,
-    yes: false,
-    null: false,
-};
+fn only_text() -> Kinds
+    ensures { allows result ≡ is Text }
+{
+    Kinds {
+        number: false,
+        negative: false,
+        byte_string: false,
+        text: true,
+        array: false,
+        yes: false,
+        null: false,
+    }
+}
 
-const ONLY_TEXT: Kinds = Kinds { text: true, ..NONE };
+fn only_array() -> Kinds
+    ensures { allows result ≡ is Array }
+{
+    Kinds {
+        number: false,
+        negative: false,
+        byte_string: false,
+        text: false,
+        array: true,
+        yes: false,
+        null: false,
+    }
+}
 
-const ONLY_ARRAY: Kinds = Kinds {
-    array: true,
-    ..NONE
-};
+fn only_number() -> Kinds
+    ensures { allows result ≡ is Number }
+{
+    Kinds {
+        number: true,
+        negative: false,
+        byte_string: false,
+        text: false,
+        array: false,
+        yes: false,
+        null: false,
+    }
+}
 
-const ONLY_NUMBER: Kinds = Kinds {
-    number: true,
-    ..NONE
-};
+fn array_or_null() -> Kinds
+    ensures { allows result ≡ (λ k. is Array k || is Null k) }
+{
+    Kinds {
+        number: false,
+        negative: false,
+        byte_string: false,
+        text: false,
+        array: true,
+        yes: false,
+        null: true,
+    }
+}
 
-const ARRAY_OR_NULL: Kinds = Kinds {
-    array: true,
-    null: true,
-    ..NONE
-};
+fn text_or_null() -> Kinds
+    ensures { allows result ≡ (λ k. is Text k || is Null k) }
+{
+    Kinds {
+        number: false,
+        negative: false,
+        byte_string: false,
+        text: true,
+        array: false,
+        yes: false,
+        null: true,
+    }
+}
 
-const TEXT_OR_NULL: Kinds = Kinds {
-    text: true,
-    null: true,
-    ..NONE
-};
+fn text_or_number() -> Kinds
+    ensures { allows result ≡ (λ k. is Text k || is Number k) }
+{
+    Kinds {
+        number: true,
+        negative: false,
+        byte_string: false,
+        text: true,
+        array: false,
+        yes: false,
+        null: false,
+    }
+}
 
-const TEXT_OR_NUMBER: Kinds = Kinds {
-    text: true,
-    number: true,
-    ..NONE
-};
+fn address_or_label() -> Kinds
+    ensures { allows result ≡ (λ k. is ByteString k || is Text k) }
+{
+    Kinds {
+        number: false,
+        negative: false,
+        byte_string: true,
+        text: true,
+        array: false,
+        yes: false,
+        null: false,
+    }
+}
 
-const ADDRESS_OR_LABEL: Kinds = Kinds {
-    byte_string: true,
-    text: true,
-    ..NONE
-};
-
-const MAY_OPEN: Kinds = Kinds {
-    number: true,
-    negative: true,
-    text: true,
-    yes: true,
-    null: true,
-    ..NONE
-};
+fn may_open() -> Kinds
+    ensures { allows result ≡ R.opens }
+{
+    Kinds {
+        number: true,
+        negative: true,
+        byte_string: false,
+        text: true,
+        array: false,
+        yes: true,
+        null: true,
+    }
+}
 
 // ---- texts
 
 fn array_head(s: &[u8], at: usize) -> Head
     ensures { head_is result ≡ read_head (is Array) s.now at }
 {
-    match cbor::item_at(s, at, ONLY_ARRAY) {
+    match cbor::item_at(s, at, only_array()) {
         Item::Array { count: n, next } => Head::Is { value: n, next },
         Item::Refused(n) => Head::Refused(Refusal {
             number: n,
@@ -218,7 +274,7 @@ fn array_head(s: &[u8], at: usize) -> Head
 fn text_at(s: &[u8], at: usize, sort: Sort) -> Step
     ensures { step_is at result ≡ R.read_text (sort_is sort) s.now at }
 {
-    match cbor::item_at(s, at, ONLY_TEXT) {
+    match cbor::item_at(s, at, only_text()) {
         Item::Text { length: n, next } => texts::text_body(s, next, n, sort),
         Item::Refused(n) => Step::Refused(n),
         _ => Step::Refused(FORM),
@@ -299,7 +355,7 @@ fn array_at(s: &[u8], at: usize, left: usize, sort: Sort, low: u64, high: u64) -
             next: at,
         };
     }
-    match cbor::item_at(s, at, ARRAY_OR_NULL) {
+    match cbor::item_at(s, at, array_or_null()) {
         Item::Array { count: n, next } => array_body(s, at, sort, low, high, n, next),
         Item::Null(next) => null_body(at, left - 1, next),
         Item::Refused(n) => SlotAt::Refused(Refusal {
@@ -342,7 +398,7 @@ fn fragment_at(s: &[u8], at: usize, left: usize) -> SlotAt
             next: at,
         };
     }
-    match cbor::item_at(s, at, TEXT_OR_NULL) {
+    match cbor::item_at(s, at, text_or_null()) {
         Item::Text { length: n, next } => fragment_body(s, at, n, next),
         Item::Null(next) => null_body(at, left - 1, next),
         Item::Refused(n) => SlotAt::Refused(Refusal {
@@ -408,7 +464,7 @@ fn port_at(s: &[u8], at: usize, left: usize) -> Names
             next: at,
         };
     }
-    match cbor::item_at(s, at, ONLY_NUMBER) {
+    match cbor::item_at(s, at, only_number()) {
         Item::Number { value: n, next } => port_body(s, at, left - 1, 0, n, next),
         Item::Refused(n) => Names::Refused(Refusal {
             number: n,
@@ -441,7 +497,7 @@ fn names_at(s: &[u8], at: usize, items: usize, count: usize) -> Names
     let mut left = items;
     let mut seen = count;
     while 0 < left {
-        match cbor::item_at(s, here, TEXT_OR_NUMBER) {
+        match cbor::item_at(s, here, text_or_number()) {
             Item::Text { length: n, next } => match label_body(s, seen, n, next) {
                 Step::Refused(k) => return Names::Refused(Refusal {
                     number: k,
@@ -556,7 +612,7 @@ fn host_at(s: &[u8], start: usize, at: usize, items: usize) -> Authority
     requires { (1 ≤ items) × (items ≤ 9) }
     ensures { authority_is result ≡ read_host s.now start at items }
 {
-    match cbor::item_at(s, at, ADDRESS_OR_LABEL) {
+    match cbor::item_at(s, at, address_or_label()) {
         Item::ByteString { length: n, next } => address_host(s, start, at, items - 1, n, next),
         Item::Text { length: n, next } => labels_host(s, start, at, items - 1, n, next),
         Item::Refused(n) => Authority::Refused(Refusal {
@@ -703,7 +759,7 @@ fn first_at(s: &[u8], at: usize, count: usize) -> First
     requires { 0 < count }
     ensures { first_is s.now at count result ≡ R.read_opening s.now at count }
 {
-    match cbor::item_at(s, at, MAY_OPEN) {
+    match cbor::item_at(s, at, may_open()) {
         Item::Number { value: n, next } => discard_body(count, n, next),
         Item::True(next) => discard_all_body(count, next),
         Item::Negative { value: n, next } => number_body(n, next),

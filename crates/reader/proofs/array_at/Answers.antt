@@ -1,20 +1,13 @@
 -- `reader::array_at` meets its contract.
+use borrow.Enum.Refused.{opened}
 use native.Mathlib.Omega.{arith}
 use mathlib.Core.List.{[], ◌∷◌}
-use mathlib.Core.Path.{refl, ◌∙◌}
-use mathlib.Core.Bool.{◌||◌}
-use Rattle.rules.specs.Head.{Array, Null, code_of, is}
-use Rattle.cbor.proofs.Heads.{same_kinds}
-use Rattle.reader.proofs.ItemAnswers.{Read, allowed, item_is_lem, no_other}
+use mathlib.Core.Path.{◌∙◌}
+use Rattle.rules.specs.Head.{code_of}
+use Rattle.reader.proofs.ItemAnswers.{item_is_lem, no_other}
 use Rattle.reader.proofs.ReaderCases as cases
 use borrow.Author.Rules.{rules}
 use Rattle.reader.proofs.array_at.Goals as goal
-use Rattle.reader.proofs.array_at.Goals.{After-item_at}
-
--- what was read here
-item : (c : After-item_at) → let a = c.args in Read (λ k. is Array k || is Null k) a.s.now a.at c.item_at.result
-unfolding code_of
-item c = allowed (same_kinds _ _ refl refl refl refl refl refl refl refl) c.item_at.ensures
 
 pub returns-then-left-eq0 : goal.returns-then-left-eq0
 returns-then-left-eq0 c = cases.array_none _ _ _ _ _ _ c.if-left-eq0.true
@@ -22,16 +15,18 @@ returns-then-left-eq0 c = cases.array_none _ _ _ _ _ _ c.if-left-eq0.true
 pub returns-in-Array : goal.returns-in-Array
 returns-in-Array c =
     c.array_body.ensures
-    ∙ cases.array_body_lem _ _ _ _ _ _ (omega arith) _ _ (item_is_lem (item (goal.at.returns-in-Array c).After-item_at) c.in-Array.is)
+    ∙ cases.array_body_lem _ _ _ _ _ _ (omega arith) _ _ (item_is_lem _ _ _ _ c.array_or_null.ensures c.item_at.ensures c.in-Array.is)
 
 pub returns-in-Null : goal.returns-in-Null
 returns-in-Null c =
     c.null_body.ensures
-    ∙ cases.array_null _ _ _ _ _ _ (omega arith) _ (item_is_lem (item (goal.at.returns-in-Null c).After-item_at) c.in-Null.is)
+    ∙ cases.array_null _ _ _ _ _ _ (omega arith) _ (item_is_lem _ _ _ _ c.array_or_null.ensures c.item_at.ensures c.in-Null.is)
 
 pub returns-in-Refused : goal.returns-in-Refused
-returns-in-Refused c = cases.array_refused _ _ _ _ _ _ (omega arith) _ (item_is_lem (item (goal.at.returns-in-Refused c).After-item_at) c.in-Refused.is)
+returns-in-Refused c =
+    cases.array_refused _ _ _ _ _ _ (omega arith) _ (item_is_lem _ _ _ _ c.array_or_null.ensures c.item_at.ensures c.in-Refused.is)
 
 pub returns-in_default : goal.returns-in_default
 unfolding code_of
-returns-in_default c = no_other (item (goal.at.returns-in_default c).After-item_at) (0 ∷ 1 ∷ 2 ∷ 3 ∷ 5 ∷ []) c.in_default.in_default-own.keys4 (tt, tt, tt, tt, tt, tt, tt, tt)
+returns-in_default c =
+    no_other _ _ _ c.item_at.result c.array_or_null.ensures c.item_at.ensures (0 ∷ 1 ∷ 2 ∷ 3 ∷ 5 ∷ []) (opened c.in_default.in_default-own.keys4) (tt, tt, tt, tt, tt, tt, tt, tt)

@@ -3,12 +3,11 @@ use native.Mathlib.Omega.{arith}
 use Prim.Native.Nat.{◌+◌, ◌≤◌}
 use mathlib.Core.List.{[], ◌∷◌}
 use mathlib.Core.Path.{◌≡◌, refl, sym, ap, ◌∙◌}
-use mathlib.Core.Bool.{◌||◌}
-use Rattle.rules.specs.Head.{Number, Text, code_of, is}
+use Rattle.rules.specs.Head.{code_of}
 use Rattle.rules.specs.Reader.{read_names}
-use Rattle.cbor.proofs.Heads.{head_accepted, same_kinds}
+use Rattle.cbor.proofs.Heads.{head_accepted}
 use Rattle.texts.specs.Answers.{step_is}
-use Rattle.reader.proofs.ItemAnswers.{Read, allowed, item_is_lem, no_other}
+use Rattle.reader.proofs.ItemAnswers.{item_is_lem, no_other}
 use Rattle.reader.proofs.ReaderCases as cases
 use borrow.Author.Rules.{rules}
 use Rattle.reader.proofs.names_at.Given as goal
