@@ -1,0 +1,13 @@
+-- `components::components_of` meets its contract, field by field.
+use Rattle.rules.specs.Meaning.{components}
+use borrow.Author.Rules.{rules}
+use Rattle.components.proofs.components_of.Goals as goal
+
+pub returns : goal.returns
+unfolding components
+returns c = λ bs i. record {
+  opening = c.opening_of.ensures bs i;
+  path = c.texts_of.ensures bs i;
+  query = c.texts_of-2.ensures bs i;
+  fragment = c.fragment_of.ensures i;
+}
