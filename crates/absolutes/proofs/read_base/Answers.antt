@@ -4,7 +4,6 @@ use Rattle.rules.specs.Resolve.{as_base}
 use Rattle.rules.proofs.Steps.{need_yes, need_no, bind_ok, bind_refused}
 use Rattle.reader.specs.Answers.{answer_is}
 use Rattle.absolutes.specs.Bases.{read_base}
-use borrow.Author.Rules.{rules}
 use Rattle.absolutes.proofs.read_base.Goals as goal
 
 pub returns-in-Refused : goal.returns-in-Refused

@@ -1,14 +1,12 @@
 -- `authority_view::authority` meets its contract: the part lies inside.
-use native.Mathlib.Nat.{zero-add}
 use native.Mathlib.Omega.{arith}
-use mathlib.Core.Path.{◌≡◌, refl, sym, ap, ◌∙◌, subst}
+use mathlib.Core.Path.{◌≡◌, sym, ap, ◌∙◌, subst}
 use Rattle.rules.specs.Model.{limits}
-use Rattle.rules.proofs.Tools.{octets_of, part_whole}
+use Rattle.rules.proofs.Tools.{octets_of}
 use Rattle.rules.proofs.Steps.{Ok, ok_use}
 use Rattle.rules.proofs.Laid.{PieceStands, authority_inside}
 use Rattle.authority_view.specs.declared.Piece.{Piece}
 use Rattle.authority_view.specs.Shown.{piece_is}
-use borrow.Author.Rules.{rules}
 use Rattle.authority_view.proofs.authority.Goals as goal
 use Rattle.authority_view.proofs.authority.Goals.{After-chosen_authority}
 

@@ -8,7 +8,6 @@ use Rattle.rules.proofs.Steps.{bind_ok, bind_refused, ok_at}
 use Rattle.rules.proofs.Laid.{ordered, laid}
 use Rattle.reader.specs.Answers.{opening_of, answer_is}
 use Rattle.absolutes.proofs.AbsoluteOpenings.{base_read, base_then}
-use borrow.Author.Rules.{rules}
 use Rattle.authority_view.proofs.chosen_authority.Goals as goal
 
 pub chosen_item-requires : goal.chosen_item-requires

@@ -5,7 +5,6 @@ use lib.ListN.{length}
 use borrow.Author.Tests.{le-leb, lt-leb}
 use Rattle.rules.proofs.Steps.{need_yes, need_no}
 use Rattle.bench.specs.Answers.{after_content}
-use borrow.Author.Rules.{rules}
 use Rattle.bench.proofs.after_content.Goals as goal
 
 pub returns-then-left-n : goal.returns-then-left-n

@@ -15,7 +15,6 @@ use Rattle.cbor.specs.Heads.{allows, item_is}
 use Rattle.cbor.proofs.Heads.{answered, head_accepted, head_never}
 use Rattle.bench.specs.Answers.{text_or_number, after_item}
 use Rattle.bench.proofs.Answers.{label_kinds, label_kinds_lem, after_text, after_number, after_refused}
-use borrow.Author.Rules.{rules}
 use Rattle.bench.proofs.after_label.Goals as goal
 
 -- what the reader of items answered

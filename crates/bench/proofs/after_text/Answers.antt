@@ -15,7 +15,6 @@ use Rattle.cbor.specs.Heads.{allows, item_is}
 use Rattle.cbor.proofs.Heads.{answered, head_accepted, head_never}
 use Rattle.bench.specs.Answers.{after_item}
 use Rattle.bench.proofs.Answers.{text_kind, text_kind_lem, after_text, after_refused}
-use borrow.Author.Rules.{rules}
 use Rattle.bench.proofs.after_text.Goals as goal
 
 -- what the reader of items answered

@@ -1,9 +1,8 @@
 -- `bench::bench_labels` meets its contract: what is left is read from where the last item ended.
-use mathlib.Core.Path.{◌≡◌, refl, sym, ap, ◌∙◌}
+use mathlib.Core.Path.{sym, ap, ◌∙◌}
 use native.Mathlib.Omega.{arith}
-use Rattle.bench.specs.Answers.{text_or_number, items, answer, step_is}
+use Rattle.bench.specs.Answers.{text_or_number, answer, step_is}
 use Rattle.bench.proofs.Answers.{items_next, items_refused, items_end}
-use borrow.Author.Rules.{rules}
 use Rattle.bench.proofs.bench_labels.Goals as goal
 
 pub returns-in-Refused : goal.returns-in-Refused

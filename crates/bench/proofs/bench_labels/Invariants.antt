@@ -1,9 +1,6 @@
 -- `bench::bench_labels` meets its contract: what is left is read from where the last item ended.
-use mathlib.Core.Path.{◌≡◌, refl, sym, ap, ◌∙◌}
-use native.Mathlib.Omega.{arith}
-use Rattle.bench.specs.Answers.{text_or_number, items, answer, step_is}
-use Rattle.bench.proofs.Answers.{items_next, items_refused, items_end}
-use borrow.Author.Rules.{rules}
+use mathlib.Core.Path.{◌≡◌}
+use Rattle.bench.specs.Answers.{text_or_number, items}
 use Rattle.bench.proofs.bench_labels.Given as goal
 
 abbrev pub invariant-loop-left : goal.invariant-loop-left

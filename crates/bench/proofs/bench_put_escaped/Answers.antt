@@ -1,12 +1,10 @@
 -- `bench::bench_put_escaped` meets its contract.
 use native.Mathlib.Omega.{arith}
 use lib.ListN.{length}
-use lib.Seq.{take-length}
 use Rattle.rules.specs.Bytes.{part}
 use Rattle.rules.proofs.Tools.{length_part}
 use Rattle.rules.proofs.Escapes.{escape_length}
 use Rattle.uri_escape.specs.Escape.{class_is}
-use borrow.Author.Rules.{rules}
 use Rattle.bench.proofs.bench_put_escaped.Goals as goal
 
 pub returns-then-room-escaped_length : goal.returns-then-room-escaped_length

@@ -1,7 +1,6 @@
 -- `bench::bench_put_ipv6` meets its contract.
 use native.Mathlib.Omega.{arith}
 use Rattle.ipv6.proofs.Mapped.{ipv6_fits}
-use borrow.Author.Rules.{rules}
 use Rattle.bench.proofs.bench_put_ipv6.Goals as goal
 
 pub put_ipv6-requires : goal.put_ipv6-requires

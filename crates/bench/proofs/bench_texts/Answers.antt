@@ -1,10 +1,9 @@
 -- `bench::bench_texts` meets its contract: what is left is read from where the last item ended.
-use mathlib.Core.Path.{◌≡◌, refl, sym, ap, ◌∙◌}
+use mathlib.Core.Path.{sym, ap, ◌∙◌}
 use native.Mathlib.Omega.{arith}
 use Rattle.rules.specs.Head.{Text, is}
-use Rattle.bench.specs.Answers.{items, answer, step_is}
+use Rattle.bench.specs.Answers.{answer, step_is}
 use Rattle.bench.proofs.Answers.{items_next, items_refused, items_end}
-use borrow.Author.Rules.{rules}
 use Rattle.bench.proofs.bench_texts.Goals as goal
 
 pub returns-in-Refused : goal.returns-in-Refused

@@ -1,10 +1,7 @@
 -- `bench::bench_texts` meets its contract: what is left is read from where the last item ended.
-use mathlib.Core.Path.{◌≡◌, refl, sym, ap, ◌∙◌}
-use native.Mathlib.Omega.{arith}
+use mathlib.Core.Path.{◌≡◌}
 use Rattle.rules.specs.Head.{Text, is}
-use Rattle.bench.specs.Answers.{items, answer, step_is}
-use Rattle.bench.proofs.Answers.{items_next, items_refused, items_end}
-use borrow.Author.Rules.{rules}
+use Rattle.bench.specs.Answers.{items}
 use Rattle.bench.proofs.bench_texts.Given as goal
 
 abbrev pub invariant-loop-left : goal.invariant-loop-left

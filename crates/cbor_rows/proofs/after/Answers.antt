@@ -1,8 +1,5 @@
 -- `cbor_rows::after` meets its contract: `left` items are left to pass.
-use native.Mathlib.Omega.{arith}
-use mathlib.Core.Path.{refl}
-use Rattle.cbor_rows.proofs.RowEnds.{Walked, walk_here, walk_inside, walk_step, walk_end}
-use borrow.Author.Rules.{rules}
+use Rattle.cbor_rows.proofs.RowEnds.{walk_step, walk_end}
 use Rattle.cbor_rows.proofs.after.Goals as goal
 
 pub loop-left-preserved : goal.loop-left-preserved

@@ -1,6 +1,5 @@
 -- `coap_coding::nibble_of` meets its contract.
 use Rattle.coap_coding.proofs.Coded.{nibble_low, nibble_high}
-use borrow.Author.Rules.{rules}
 use Rattle.coap_coding.proofs.nibble_of.Goals as goal
 
 pub returns-then-n-lt13 : goal.returns-then-n-lt13

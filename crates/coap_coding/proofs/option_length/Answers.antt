@@ -1,7 +1,6 @@
 -- `coap_coding::option_length` meets its contract.
 use native.Mathlib.Omega.{arith}
 use Rattle.coap_coding.proofs.Coded.{extension_most, option_size}
-use borrow.Author.Rules.{rules}
 use Rattle.coap_coding.proofs.option_length.Goals as goal
 
 pub overflow_add-result : goal.overflow_add-result

@@ -4,7 +4,6 @@ use mathlib.Core.Path.{ap}
 use lib.ListN.{length}
 use Rattle.put.proofs.Wrote.{wrote_none, wrote_as}
 use Rattle.coap_coding.proofs.Coded.{extension_low, extension_high}
-use borrow.Author.Rules.{rules}
 use Rattle.coap_coding.proofs.put_extension.Goals as goal
 
 pub returns-then-n-lt13 : goal.returns-then-n-lt13

@@ -4,7 +4,6 @@ use Rattle.rules.specs.Bytes.{part}
 use Rattle.rules.proofs.Tools.{length_part}
 use Rattle.put.proofs.Wrote.{wrote_then, wrote_as, wrote_length}
 use Rattle.coap_coding.proofs.Coded.{nibble_most, option_size, option_pieces}
-use borrow.Author.Rules.{rules}
 use Rattle.coap_coding.proofs.put_option.Goals as goal
 
 pub overflow_mul-nibble_of : goal.overflow_mul-nibble_of

@@ -1,13 +1,9 @@
 -- `coap_coding::put_row` meets its contract: what is left to write is the options of the texts that are left.
 use native.Mathlib.Omega.{arith}
 use lib.ListN.{length}
-use Rattle.rules.specs.Reader.{contents}
-use Rattle.rules.specs.Standing.{RowAt}
-use Rattle.rules.proofs.RowWalk.{First, first, first_stands}
-use Rattle.put.proofs.Wrote.{Left, left_all, left_done, next_room, next_wrote}
-use Rattle.coap_coding.specs.Coded.{Small, AllSmall, coded}
+use Rattle.rules.proofs.RowWalk.{First, first}
+use Rattle.put.proofs.Wrote.{left_done, next_room, next_wrote}
 use Rattle.coap_coding.proofs.CodedTurns.{turn_small, turn_others, turn_next, none_coded}
-use borrow.Author.Rules.{rules}
 use Rattle.coap_coding.proofs.put_row.Goals as goal
 use Rattle.coap_coding.proofs.put_row.Goals.{After-span_at-span}
 

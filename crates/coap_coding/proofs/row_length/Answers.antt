@@ -3,16 +3,12 @@ use Prim.Native.Nat.{◌+◌, ◌<◌, ◌^◌}
 use Rattle.rules.specs.Bytes.{part}
 use native.Mathlib.Omega.{arith}
 use lib.ListN.{length}
-use Rattle.rules.specs.Reader.{contents}
-use Rattle.rules.specs.Standing.{RowAt}
 use Rattle.rules.proofs.Tools.{length_part}
-use Rattle.rules.proofs.RowWalk.{First, first, first_stands}
+use Rattle.rules.proofs.RowWalk.{First, first}
 use mathlib.Core.Path.{ap}
-use Rattle.put.proofs.Wrote.{Count, count_all, counted}
-use Rattle.coap_coding.specs.Coded.{Small, AllSmall, coded}
+use Rattle.put.proofs.Wrote.{counted}
 use Rattle.coap_coding.proofs.Coded.{coded_most}
 use Rattle.coap_coding.proofs.CodedTurns.{turn_small, turn_others, turn_count, none_coded}
-use borrow.Author.Rules.{rules}
 use Rattle.coap_coding.proofs.row_length.Goals as goal
 use Rattle.coap_coding.proofs.row_length.Goals.{After-option_length-total, After-span_at-span}
 

@@ -1,18 +1,9 @@
 -- `coap_coding::row_length` meets its contract: what is left to count is the options of the texts that are left.
-use Prim.Native.Nat.{◌+◌, ◌<◌, ◌^◌}
-use Rattle.rules.specs.Bytes.{part}
-use native.Mathlib.Omega.{arith}
 use lib.ListN.{length}
 use Rattle.rules.specs.Reader.{contents}
 use Rattle.rules.specs.Standing.{RowAt}
-use Rattle.rules.proofs.Tools.{length_part}
-use Rattle.rules.proofs.RowWalk.{First, first, first_stands}
-use mathlib.Core.Path.{ap}
-use Rattle.put.proofs.Wrote.{Count, count_all, counted}
+use Rattle.put.proofs.Wrote.{Count}
 use Rattle.coap_coding.specs.Coded.{Small, AllSmall, coded}
-use Rattle.coap_coding.proofs.Coded.{coded_most}
-use Rattle.coap_coding.proofs.CodedTurns.{turn_small, turn_others, turn_count, none_coded}
-use borrow.Author.Rules.{rules}
 use Rattle.coap_coding.proofs.row_length.Given as goal
 
 abbrev pub invariant-loop-left : goal.invariant-loop-left

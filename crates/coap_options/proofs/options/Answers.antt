@@ -5,7 +5,6 @@ use Rattle.rules.proofs.Tools.{octets_of}
 use Rattle.outcomes.proofs.Answers.{right_refused, right_as}
 use Rattle.reader.specs.Answers.{answer_is}
 use Rattle.coap_options.proofs.CallCases.{address_refused, input_refused, found_answered, asks}
-use borrow.Author.Rules.{rules}
 use Rattle.coap_options.proofs.options.Goals as goal
 
 pub options_of_found-requires : goal.options_of_found-requires

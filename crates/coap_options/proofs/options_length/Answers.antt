@@ -1,8 +1,7 @@
 -- `coap_options::options_length` meets its contract.
 use native.Mathlib.Omega.{arith}
 use Rattle.coap_coding.proofs.Coded.{coded_most}
-use Rattle.coap_options.proofs.Pieces.{value_most, pieces_sum}
-use borrow.Author.Rules.{rules}
+use Rattle.coap_options.proofs.Pieces.{value_most}
 use Rattle.coap_options.proofs.options_length.Goals as goal
 
 pub overflow_add-result : goal.overflow_add-result

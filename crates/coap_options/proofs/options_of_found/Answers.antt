@@ -1,9 +1,8 @@
 -- `coap_options::options_of_found` meets its contract.
-use mathlib.Core.Path.{sym, ap, ◌∙◌}
-use Rattle.outcomes.proofs.Answers.{right_refused, right_as}
+use mathlib.Core.Path.{ap, ◌∙◌}
+use Rattle.outcomes.proofs.Answers.{right_refused}
 use Rattle.reader.specs.Answers.{scheme_of, opening_of}
-use Rattle.coap_options.proofs.CallCases.{answers_discard, answers_all, answers_none, answers_number, answers_name, full_asks}
-use borrow.Author.Rules.{rules}
+use Rattle.coap_options.proofs.CallCases.{answers_discard, answers_all, answers_none, answers_name}
 use Rattle.coap_options.proofs.options_of_found.Goals as goal
 
 pub returns-in-Discard : goal.returns-in-Discard

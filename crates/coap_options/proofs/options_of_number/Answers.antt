@@ -12,7 +12,6 @@ use Rattle.schemes.specs.Schemes.{default_is}
 use Rattle.schemes.proofs.Table.{default_most}
 use Rattle.coap_options.specs.Requests.{options_at}
 use Rattle.coap_options.proofs.CallCases.{default_none, default_fragment, default_some}
-use borrow.Author.Rules.{rules}
 use Rattle.coap_options.proofs.options_of_number.Goals as goal
 
 pub requested-requires : goal.requested-requires

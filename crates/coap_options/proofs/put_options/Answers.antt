@@ -1,8 +1,5 @@
 -- `coap_options::put_options` meets its contract.
-use native.Mathlib.Omega.{arith}
-use Rattle.put.proofs.Wrote.{wrote_then, wrote_length}
-use Rattle.coap_options.proofs.Pieces.{pieces_sum}
-use borrow.Author.Rules.{rules}
+use Rattle.put.proofs.Wrote.{wrote_then}
 use Rattle.coap_options.proofs.put_options.Goals as goal
 
 pub returns : goal.returns

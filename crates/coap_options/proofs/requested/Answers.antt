@@ -8,7 +8,6 @@ use Rattle.outcomes.proofs.Answers.{right_full, right_done}
 use Rattle.reader.specs.Answers.{slot_of, host_of}
 use Rattle.coap_options.specs.Requests.{options_at}
 use Rattle.coap_options.proofs.Pieces.{Known, known}
-use borrow.Author.Rules.{rules}
 use Rattle.coap_options.proofs.requested.Goals as goal
 use Rattle.coap_options.proofs.requested.Goals.{After-deltas_of-deltas, After-options_length}
 

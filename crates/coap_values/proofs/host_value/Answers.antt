@@ -3,7 +3,6 @@ use native.Mathlib.Omega.{arith}
 use mathlib.Core.Path.{sym, ap, ◌∙◌}
 use Rattle.reader.specs.Answers.{host_of}
 use Rattle.coap_values.proofs.Values.{valued_none, valued_wrote, host_same, host_address, host_labels}
-use borrow.Author.Rules.{rules}
 use Rattle.coap_values.proofs.host_value.Goals as goal
 
 pub returns-then-same_at : goal.returns-then-same_at

@@ -3,7 +3,6 @@ use native.Mathlib.Omega.{arith}
 use Rattle.put.proofs.Wrote.{wrote_as}
 use Rattle.rules.proofs.OptionsBack.{port_two}
 use Rattle.coap_values.proofs.Values.{valued_none, valued_wrote, port_big, port_same, port_other}
-use borrow.Author.Rules.{rules}
 use Rattle.coap_values.proofs.port_value.Goals as goal
 
 pub returns-then-port-to_port : goal.returns-then-port-to_port

@@ -2,15 +2,12 @@
 use native.Mathlib.Omega.{arith}
 use mathlib.Core.List.{◌∷◌}
 use Rattle.rules.specs.Bytes.{dot}
-use Rattle.rules.specs.Reader.{contents}
-use Rattle.rules.specs.Standing.{RowAt}
 use Rattle.rules.proofs.Tools.{length_part}
-use Rattle.rules.proofs.RowWalk.{First, first, first_stands}
-use Rattle.put.proofs.Wrote.{Left, left_all, left_done, next_room, next_wrote, wrote_then, wrote_length}
+use Rattle.rules.proofs.RowWalk.{First, first}
+use Rattle.put.proofs.Wrote.{left_done, next_room, next_wrote, wrote_then, wrote_length}
 use Rattle.put.proofs.RowTurns.{turn_next, none_of}
 use Rattle.coap_values.specs.Values.{dotted}
 use Rattle.coap_values.proofs.Values.{dotted_each, dotted_none}
-use borrow.Author.Rules.{rules}
 use Rattle.coap_values.proofs.put_further_labels.Goals as goal
 use Rattle.coap_values.proofs.put_further_labels.Goals.{After-span_at-span}
 

@@ -1,10 +1,9 @@
 -- `coap_values::put_labels` meets its contract.
 use native.Mathlib.Omega.{arith}
 use Rattle.rules.proofs.Tools.{length_part}
-use Rattle.rules.proofs.RowWalk.{first, first_stands}
+use Rattle.rules.proofs.RowWalk.{first}
 use Rattle.put.proofs.Wrote.{wrote_then, wrote_as, wrote_length}
 use Rattle.coap_values.proofs.Values.{first_dotted, dotted_size}
-use borrow.Author.Rules.{rules}
 use Rattle.coap_values.proofs.put_labels.Goals as goal
 
 pub put_part-p-requires : goal.put_part-p-requires

@@ -1,9 +1,8 @@
 -- `coap_values::segments` meets its contract: a path of one empty segment is none, and any other is as it stands.
 use mathlib.Core.Path.{ap}
-use Rattle.rules.proofs.RowWalk.{first, first_stands}
+use Rattle.rules.proofs.RowWalk.{first}
 use Rattle.reader.specs.Answers.{slot_of}
 use Rattle.coap_values.proofs.Values.{one_positive, unset_path, lone_empty, lone_full, not_one}
-use borrow.Author.Rules.{rules}
 use Rattle.coap_values.proofs.segments.Goals as goal
 
 pub returns-then-span-eq0 : goal.returns-then-span-eq0

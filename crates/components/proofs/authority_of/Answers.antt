@@ -1,7 +1,6 @@
 -- `components::authority_of` meets its contract.
 use Rattle.rules.proofs.Texts.{length_spans}
 use Rattle.components.proofs.Content.{port_laid_lem}
-use borrow.Author.Rules.{rules}
 use Rattle.components.proofs.authority_of.Goals as goal
 
 pub returns-in-Labels : goal.returns-in-Labels

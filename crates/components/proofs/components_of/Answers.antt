@@ -1,6 +1,5 @@
 -- `components::components_of` meets its contract, field by field.
 use Rattle.rules.specs.Meaning.{components}
-use borrow.Author.Rules.{rules}
 use Rattle.components.proofs.components_of.Goals as goal
 
 pub returns : goal.returns

@@ -9,7 +9,6 @@ use Rattle.put.proofs.Wrote.{wrote_then, wrote_all, wrote_length}
 use Rattle.reader.specs.Answers.{slot_of, found_of}
 use Rattle.components.specs.Layout.{span_numbers, spans_after}
 use Rattle.components.proofs.Filling.{texts_at, texts_at_lem, found_size}
-use borrow.Author.Rules.{rules}
 use Rattle.components.proofs.put_found.Goals as goal
 
 pub put_texts-segments-requires : goal.put_texts-segments-requires

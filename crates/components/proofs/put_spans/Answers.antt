@@ -1,10 +1,7 @@
 -- `components::put_spans` meets its contract: after each turn the numbers of the items that are left are to be put.
 use native.Mathlib.Omega.{arith}
 use lib.ListN.{length-set}
-use Rattle.rules.specs.Reader.{spans}
-use Rattle.components.specs.Layout.{span_numbers}
-use Rattle.components.proofs.Filling.{Filling, fill_start, fill_item, fill_room, fill_inside, fill_step, fill_end}
-use borrow.Author.Rules.{rules}
+use Rattle.components.proofs.Filling.{fill_room, fill_step, fill_end}
 use Rattle.components.proofs.put_spans.Goals as goal
 
 pub bounds-room-o : goal.bounds-room-o

@@ -1,7 +1,6 @@
 -- `components::put_texts` meets its contract.
 use Rattle.components.specs.Layout.{span_numbers}
-use Rattle.put.proofs.Wrote.{wrote_none, wrote_length}
-use borrow.Author.Rules.{rules}
+use Rattle.put.proofs.Wrote.{wrote_none}
 use Rattle.components.proofs.put_texts.Goals as goal
 
 pub returns-in-Unset : goal.returns-in-Unset

@@ -9,7 +9,6 @@ use Rattle.rules.specs.Model.{limits}
 use Rattle.refusals.specs.declared.Verdict.TheVariants as VerdictV
 use Rattle.reader.specs.Answers.{answer_is}
 use Rattle.components.specs.Layout.{reading_laid, spans_after}
-use borrow.Author.Rules.{rules}
 use Rattle.components.proofs.read.Goals as goal
 
 pub put_found-requires : goal.put_found-requires

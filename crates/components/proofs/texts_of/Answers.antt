@@ -1,6 +1,5 @@
 -- `components::texts_of` meets its contract.
 use Rattle.rules.proofs.Texts.{length_spans}
-use borrow.Author.Rules.{rules}
 use Rattle.components.proofs.texts_of.Goals as goal
 
 pub returns-in-Set : goal.returns-in-Set

@@ -3,7 +3,6 @@ use native.Mathlib.Omega.{arith}
 use mathlib.Core.Path.{refl, ◌∙◌}
 use Rattle.rules.specs.Result.{ok}
 use Rattle.outcomes.proofs.Answers.{right_full, right_done}
-use borrow.Author.Rules.{rules}
 use Rattle.outcomes.proofs.copied.Goals as goal
 
 pub returns-then-room-s : goal.returns-then-room-s

@@ -3,11 +3,10 @@ use native.Mathlib.Omega.{arith}
 use Prim.Native.Nat.{◌+◌}
 use lib.ListN.{length}
 use mathlib.Core.Path.{sym, ap, ◌∙◌}
-use borrow.Author.Tests.{le-leb, lt-leb, not-true, not-false}
+use borrow.Author.Tests.{le-leb, lt-leb}
 use Rattle.rules.specs.Reader.{read_content, address_host}
 use Rattle.rules.proofs.Steps.{need_yes, need_no, bind_ok, bind_refused}
 use Rattle.reader.specs.Answers.{names_is}
-use borrow.Author.Rules.{rules}
 use Rattle.reader.proofs.address_host.Goals as goal
 
 pub returns-then-not-is_address_length : goal.returns-then-not-is_address_length

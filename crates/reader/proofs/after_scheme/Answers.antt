@@ -5,7 +5,6 @@ use borrow.Author.Tests.{le-leb, lt-leb}
 use Rattle.rules.specs.Reader.{after_scheme}
 use Rattle.rules.proofs.Steps.{need_yes, need_no, bind_ok, bind_refused}
 use Rattle.reader.specs.Answers.{authority_is}
-use borrow.Author.Rules.{rules}
 use Rattle.reader.proofs.after_scheme.Goals as goal
 
 pub returns-then-count-lt2 : goal.returns-then-count-lt2

@@ -6,7 +6,6 @@ use Rattle.rules.proofs.Tools.{is_within}
 use Rattle.rules.proofs.Steps.{need_yes, need_no, bind_ok, bind_refused}
 use Rattle.reader.specs.Answers.{row_end_is}
 use Rattle.reader.proofs.ReaderCases.{under, over}
-use borrow.Author.Rules.{rules}
 use Rattle.reader.proofs.array_body.Goals as goal
 
 pub returns-then-n-low : goal.returns-then-n-low

@@ -3,7 +3,6 @@ use borrow.Enum.Refused.{opened}
 use mathlib.Core.List.{[], ◌∷◌}
 use Rattle.rules.specs.Head.{code_of}
 use Rattle.reader.proofs.ItemAnswers.{item_is_lem, no_other}
-use borrow.Author.Rules.{rules}
 use Rattle.reader.proofs.array_head.Goals as goal
 
 pub returns-in-Array : goal.returns-in-Array

@@ -6,7 +6,6 @@ use Rattle.rules.proofs.Tools.{is_within}
 use Rattle.rules.proofs.Steps.{need_yes, need_no, bind_ok, bind_refused}
 use Rattle.reader.specs.Answers.{head_is, read_host}
 use Rattle.reader.proofs.ReaderCases.{under, over}
-use borrow.Author.Rules.{rules}
 use Rattle.reader.proofs.authority_at.Goals as goal
 
 pub returns-then-items-lt1 : goal.returns-then-items-lt1

@@ -5,7 +5,6 @@ use mathlib.Core.Path.{sym, ap, ◌∙◌}
 use borrow.Author.Tests.{le-leb, lt-leb}
 use Rattle.rules.specs.Reader.{opening_body}
 use Rattle.rules.proofs.Steps.{need_yes, need_no}
-use borrow.Author.Rules.{rules}
 use Rattle.reader.proofs.discard_body.Goals as goal
 
 pub returns-then-n-gt-DISCARD : goal.returns-then-n-gt-DISCARD

@@ -7,7 +7,6 @@ use Rattle.rules.specs.Reader.{opening_body}
 use Rattle.cbor.proofs.Heads.{head_accepted}
 use Rattle.reader.proofs.ItemAnswers.{item_is_lem, no_other}
 use Rattle.reader.proofs.ReaderCases as cases
-use borrow.Author.Rules.{rules}
 use Rattle.reader.proofs.first_at.Goals as goal
 
 pub name_body-requires : goal.name_body-requires

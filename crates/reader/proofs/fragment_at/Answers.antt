@@ -7,7 +7,6 @@ use Rattle.rules.specs.Head.{code_of}
 use Rattle.cbor.proofs.Heads.{head_accepted}
 use Rattle.reader.proofs.ItemAnswers.{item_is_lem, no_other}
 use Rattle.reader.proofs.ReaderCases as cases
-use borrow.Author.Rules.{rules}
 use Rattle.reader.proofs.fragment_at.Goals as goal
 
 pub returns-then-left-eq0 : goal.returns-then-left-eq0

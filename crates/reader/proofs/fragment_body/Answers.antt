@@ -4,7 +4,6 @@ use Rattle.rules.specs.Head.{Text}
 use Rattle.rules.specs.Reader.{fragment_body}
 use Rattle.rules.proofs.Steps.{bind_ok, bind_refused}
 use Rattle.texts.specs.Answers.{step_is}
-use borrow.Author.Rules.{rules}
 use Rattle.reader.proofs.fragment_body.Goals as goal
 
 pub returns-in-Refused : goal.returns-in-Refused

@@ -7,7 +7,6 @@ use Rattle.rules.specs.Head.{code_of}
 use Rattle.cbor.proofs.Heads.{head_accepted}
 use Rattle.reader.proofs.ItemAnswers.{item_is_lem, no_other}
 use Rattle.reader.proofs.ReaderCases as cases
-use borrow.Author.Rules.{rules}
 use Rattle.reader.proofs.host_at.Goals as goal
 
 pub address_host-requires : goal.address_host-requires

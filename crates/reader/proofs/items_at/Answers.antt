@@ -2,7 +2,6 @@
 use mathlib.Core.Path.{sym, ap, ◌∙◌}
 use Rattle.rules.proofs.Steps.{bind_ok, bind_refused}
 use Rattle.reader.specs.Answers.{opened_is, read_items}
-use borrow.Author.Rules.{rules}
 use Rattle.reader.proofs.items_at.Goals as goal
 
 pub returns-in-Refused : goal.returns-in-Refused

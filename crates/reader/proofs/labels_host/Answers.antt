@@ -1,7 +1,6 @@
 -- `reader::labels_host` meets its contract.
 use native.Mathlib.Omega.{arith}
 use mathlib.Core.Path.{sym, ap, ◌∙◌}
-use borrow.Author.Tests.{not-true, not-false}
 use Rattle.rules.specs.Reader.{labels_host}
 use Rattle.rules.proofs.Tools.{octets_of}
 use Rattle.rules.proofs.Steps.{need_yes, need_no, bind_ok, bind_refused}
@@ -9,7 +8,6 @@ use Rattle.cbor.proofs.Heads.{head_accepted}
 use Rattle.texts.specs.Answers.{step_is}
 use Rattle.reader.specs.Answers.{names_is}
 use Rattle.reader.proofs.ReaderCases.{labels_stand}
-use borrow.Author.Rules.{rules}
 use Rattle.reader.proofs.labels_host.Goals as goal
 
 pub label_body-requires : goal.label_body-requires

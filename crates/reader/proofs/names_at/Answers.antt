@@ -1,16 +1,13 @@
 -- `reader::names_at` meets its contract: what is left is read from where the last label ended.
 use borrow.Enum.Refused.{opened}
 use native.Mathlib.Omega.{arith}
-use Prim.Native.Nat.{◌+◌, ◌≤◌}
 use mathlib.Core.List.{[], ◌∷◌}
-use mathlib.Core.Path.{◌≡◌, refl, sym, ap, ◌∙◌}
+use mathlib.Core.Path.{sym, ap, ◌∙◌}
 use Rattle.rules.specs.Head.{code_of}
-use Rattle.rules.specs.Reader.{read_names}
 use Rattle.cbor.proofs.Heads.{head_accepted}
 use Rattle.texts.specs.Answers.{step_is}
 use Rattle.reader.proofs.ItemAnswers.{item_is_lem, no_other}
 use Rattle.reader.proofs.ReaderCases as cases
-use borrow.Author.Rules.{rules}
 use Rattle.reader.proofs.names_at.Goals as goal
 
 pub label_body-requires : goal.label_body-requires

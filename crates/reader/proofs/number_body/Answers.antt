@@ -1,14 +1,12 @@
 -- `reader::number_body` meets its contract: the number is in the table if its id is, and comes back from it.
 use Prim.Native.Nat.{ℕ}
 use mathlib.Core.Path.{◌≡◌, sym, ap, ◌∙◌}
-use borrow.Author.Tests.{not-true, not-false}
 use Rattle.rules.specs.Reader.{number_at, after_scheme, opening_body}
 use Rattle.rules.proofs.Steps.{need_yes, need_no}
 use Rattle.schemes.specs.Schemes.{scheme_id}
 use Rattle.schemes.specs.declared.SchemeId.TheVariants.{Is}
-use Rattle.schemes.proofs.Schemes.{number_read, negative_read}
+use Rattle.schemes.proofs.Schemes.{number_read}
 use Rattle.schemes.proofs.Table.{known_id_lem, too_large_unknown}
-use borrow.Author.Rules.{rules}
 use Rattle.reader.proofs.number_body.Goals as goal
 use Rattle.reader.proofs.number_body.Goals.{In-Is}
 

@@ -6,7 +6,6 @@ use mathlib.Core.Path.{◌∙◌}
 use Rattle.rules.specs.Head.{code_of}
 use Rattle.reader.proofs.ItemAnswers.{item_is_lem, no_other}
 use Rattle.reader.proofs.ReaderCases as cases
-use borrow.Author.Rules.{rules}
 use Rattle.reader.proofs.port_at.Goals as goal
 
 pub returns-then-left-eq0 : goal.returns-then-left-eq0

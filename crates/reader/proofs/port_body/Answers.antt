@@ -5,7 +5,6 @@ use borrow.Author.Tests.{le-leb, lt-leb}
 use Rattle.rules.specs.Reader.{port_body}
 use Rattle.rules.proofs.Steps.{need_yes, need_no, bind_ok, bind_refused}
 use Rattle.reader.specs.Answers.{row_end_is}
-use borrow.Author.Rules.{rules}
 use Rattle.reader.proofs.port_body.Goals as goal
 
 pub returns-then-n-gt-PORT : goal.returns-then-n-gt-PORT

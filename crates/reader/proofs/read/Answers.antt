@@ -4,7 +4,6 @@ use mathlib.Core.Path.{sym, ap, ◌∙◌}
 use Rattle.rules.specs.Model.{limits}
 use Rattle.reader.specs.Answers.{head_is}
 use Rattle.reader.proofs.ReaderCases as cases
-use borrow.Author.Rules.{rules}
 use Rattle.reader.proofs.read.Goals as goal
 
 pub returns-then-s-gt-BYTES : goal.returns-then-s-gt-BYTES

@@ -4,7 +4,6 @@ use Rattle.rules.specs.Reader.{read_array, read_fragment}
 use Rattle.rules.specs.Rules.{parameter}
 use Rattle.rules.proofs.Steps.{bind_ok, bind_refused}
 use Rattle.reader.specs.Answers.{slot_is, read_rest}
-use borrow.Author.Rules.{rules}
 use Rattle.reader.proofs.rest_at.Goals as goal
 
 pub returns-in-Refused : goal.returns-in-Refused

@@ -1,10 +1,8 @@
 -- `reader::row_at` meets its contract: what is left is read from where the last text ended.
-use mathlib.Core.Path.{◌≡◌, refl, sym, ap, ◌∙◌}
+use mathlib.Core.Path.{sym, ap, ◌∙◌}
 use native.Mathlib.Omega.{arith}
-use Rattle.rules.specs.Reader.{read_row}
-use Rattle.texts.specs.Answers.{sort_is, step_is}
+use Rattle.texts.specs.Answers.{step_is}
 use Rattle.reader.proofs.ReaderCases.{texts_next, texts_refused, texts_none}
-use borrow.Author.Rules.{rules}
 use Rattle.reader.proofs.row_at.Goals as goal
 
 pub returns-in-Refused : goal.returns-in-Refused

@@ -1,10 +1,7 @@
 -- `reader::row_at` meets its contract: what is left is read from where the last text ended.
-use mathlib.Core.Path.{◌≡◌, refl, sym, ap, ◌∙◌}
-use native.Mathlib.Omega.{arith}
+use mathlib.Core.Path.{◌≡◌}
 use Rattle.rules.specs.Reader.{read_row}
-use Rattle.texts.specs.Answers.{sort_is, step_is}
-use Rattle.reader.proofs.ReaderCases.{texts_next, texts_refused, texts_none}
-use borrow.Author.Rules.{rules}
+use Rattle.texts.specs.Answers.{sort_is}
 use Rattle.reader.proofs.row_at.Given as goal
 
 abbrev pub invariant-loop-left : goal.invariant-loop-left

@@ -6,7 +6,6 @@ use Rattle.rules.specs.Head.{code_of, Text}
 use Rattle.cbor.proofs.Heads.{head_accepted}
 use Rattle.reader.proofs.ItemAnswers.{item_is_lem, no_other}
 use Rattle.reader.proofs.ReaderCases.{text_body_lem, text_refused}
-use borrow.Author.Rules.{rules}
 use Rattle.reader.proofs.text_at.Goals as goal
 
 pub text_body-requires : goal.text_body-requires

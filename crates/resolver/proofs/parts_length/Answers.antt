@@ -2,7 +2,6 @@
 use native.Mathlib.Omega.{arith}
 use Rattle.resolver.proofs.ResultItems.{head_most_path}
 use Rattle.resolver.proofs.Encoded.{parts_length}
-use borrow.Author.Rules.{rules}
 use Rattle.resolver.proofs.parts_length.Goals as goal
 
 pub overflow_add-result-2 : goal.overflow_add-result-2

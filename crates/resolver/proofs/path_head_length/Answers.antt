@@ -3,7 +3,6 @@ use mathlib.Core.Path.{ap, ◌∙◌}
 use Rattle.rules.specs.Head.{Array}
 use lib.ListN.{length}
 use Rattle.resolver.proofs.ResultItems.{head_path, head_items}
-use borrow.Author.Rules.{rules}
 use Rattle.resolver.proofs.path_head_length.Goals as goal
 
 pub returns-then-segments-gt0 : goal.returns-then-segments-gt0

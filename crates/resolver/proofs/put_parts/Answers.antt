@@ -6,7 +6,6 @@ use Rattle.put.proofs.Wrote.{wrote_then, wrote_as, wrote_length}
 use Rattle.resolver.specs.Written.{parts_of}
 use Rattle.resolver.proofs.ResultItems.{items_most}
 use Rattle.resolver.proofs.Encoded.{counted, sizes}
-use borrow.Author.Rules.{rules}
 use Rattle.resolver.proofs.put_parts.Goals as goal
 
 pub overflow_add-count : goal.overflow_add-count

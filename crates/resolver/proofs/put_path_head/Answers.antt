@@ -4,7 +4,6 @@ use mathlib.Core.Path.{ap}
 use lib.ListN.{length}
 use Rattle.put.proofs.Wrote.{wrote_as, wrote_none}
 use Rattle.resolver.proofs.ResultItems.{head_path, head_null, head_none}
-use borrow.Author.Rules.{rules}
 use Rattle.resolver.proofs.put_path_head.Goals as goal
 
 pub put_head-requires : goal.put_head-requires

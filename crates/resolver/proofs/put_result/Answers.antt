@@ -4,7 +4,6 @@ use mathlib.Core.Path.{◌∙◌}
 use Rattle.outcomes.proofs.Answers.{right_refused, right_full, right_done}
 use Rattle.resolver.specs.Written.{parts_of}
 use Rattle.resolver.proofs.Encoded.{over_segments, over_bytes, within_both}
-use borrow.Author.Rules.{rules}
 use Rattle.resolver.proofs.put_result.Goals as goal
 
 pub returns-then-path-gt-SEGMENTS : goal.returns-then-path-gt-SEGMENTS

@@ -9,7 +9,6 @@ use Rattle.rules.proofs.Laid.{laid}
 use Rattle.reader.specs.Answers.{answer_is}
 use Rattle.outcomes.proofs.Answers.{right_refused, right_as}
 use Rattle.resolver.proofs.Encoded.{parts_inside, parts_small, call_parts, base_says, base_refused, reference_refused, read_reference_lem}
-use borrow.Author.Rules.{rules}
 use Rattle.resolver.proofs.resolve.Goals as goal
 
 pub parts_of-requires : goal.parts_of-requires

@@ -1,9 +1,5 @@
 -- `resolver_parts::front` meets its contract.
-use native.Mathlib.Omega.{arith}
-use Prim.Native.Nat.{ℕ}
-use mathlib.Core.Path.{◌≡◌}
 use Rattle.resolver_parts.proofs.ResultParts.{full_laid}
-use borrow.Author.Rules.{rules}
 use Rattle.resolver_parts.proofs.front.Goals as goal
 
 pub returns-in-Full : goal.returns-in-Full

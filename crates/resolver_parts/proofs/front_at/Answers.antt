@@ -1,8 +1,6 @@
 -- `resolver_parts::front_at` meets its contract.
-use native.Mathlib.Omega.{arith}
 use Rattle.rules.specs.Encode.{or_null}
 use Rattle.resolver_parts.proofs.ResultParts.{span_is_lem, both_is, front_old, front_own}
-use borrow.Author.Rules.{rules}
 use Rattle.resolver_parts.proofs.front_at.Goals as goal
 
 pub returns-in-Discard : goal.returns-in-Discard

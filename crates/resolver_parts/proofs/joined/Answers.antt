@@ -1,7 +1,5 @@
 -- `resolver_parts::joined` meets its contract.
-use native.Mathlib.Omega.{arith}
 use Rattle.resolver_parts.proofs.ResultParts.{joined_short, joined_long}
-use borrow.Author.Rules.{rules}
 use Rattle.resolver_parts.proofs.joined.Goals as goal
 
 pub returns-then-old-new-lt2 : goal.returns-then-old-new-lt2

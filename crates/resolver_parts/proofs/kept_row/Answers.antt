@@ -5,7 +5,6 @@ use lib.ListN.{take}
 use Rattle.rules.proofs.Texts.{length_contents}
 use Rattle.resolver_parts.specs.Parts.{kept, row_texts}
 use Rattle.resolver_parts.proofs.ResultParts.{row_none, row_as}
-use borrow.Author.Rules.{rules}
 use Rattle.resolver_parts.proofs.kept_row.Goals as goal
 
 pub returns-in-Discard : goal.returns-in-Discard

@@ -3,7 +3,6 @@ use native.Mathlib.Omega.{arith}
 use mathlib.Core.Path.{sym}
 use Rattle.rules.proofs.RowLengths.{normal_short, normal_long}
 use Rattle.resolver_parts.proofs.ResultParts.{row_none, row_as, row_length}
-use borrow.Author.Rules.{rules}
 use Rattle.resolver_parts.proofs.normal_row.Goals as goal
 
 pub returns-then-row-lt2 : goal.returns-then-row-lt2

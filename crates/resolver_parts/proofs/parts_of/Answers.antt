@@ -1,6 +1,5 @@
 -- `resolver_parts::parts_of` meets its contract.
-use Rattle.rules.proofs.Laid.{ordered}
-use Rattle.reader.specs.Answers.{opening_of, found_of}
+use Rattle.reader.specs.Answers.{found_of}
 use Rattle.resolver_parts.proofs.Resolved.{parts_are}
 use Rattle.resolver_parts.proofs.parts_of.Goals as goal
 

@@ -8,7 +8,6 @@ use Rattle.rules.specs.Laid.{PathLaid}
 use Rattle.reader.specs.Answers.{slot_of, opening_of}
 use Rattle.resolver_parts.specs.Parts.{kept}
 use Rattle.resolver_parts.proofs.ResultParts.{path_ends, row_self, row_small, path_as}
-use borrow.Author.Rules.{rules}
 use Rattle.resolver_parts.proofs.path_of.Goals as goal
 
 pub row_of-new-requires : goal.row_of-new-requires

@@ -1,7 +1,5 @@
 -- `resolver_parts::row_of` meets its contract.
-use native.Mathlib.Omega.{arith}
-use Rattle.resolver_parts.proofs.ResultParts.{row_none, row_laid}
-use borrow.Author.Rules.{rules}
+use Rattle.resolver_parts.proofs.ResultParts.{row_none}
 use Rattle.resolver_parts.proofs.row_of.Goals as goal
 
 pub returns-in-Unset : goal.returns-in-Unset

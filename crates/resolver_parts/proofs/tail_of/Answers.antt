@@ -1,12 +1,10 @@
 -- `resolver_parts::tail_of` meets its contract.
-use native.Mathlib.Omega.{arith}
 use mathlib.Core.Path.{refl, sym, ap, ◌∙◌}
 use mathlib.Core.Bool.{Bool}
 use Rattle.rules.proofs.Laid.{between_then, between_at}
 use Rattle.reader.specs.Answers.{slot_of, opening_of}
 use Rattle.resolver_parts.specs.Parts.{further_of}
 use Rattle.resolver_parts.proofs.ResultParts.{span_is_lem, span_none, own_query, old_query}
-use borrow.Author.Rules.{rules}
 use Rattle.resolver_parts.proofs.tail_of.Goals as goal
 
 pub returns-then-takes_query : goal.returns-then-takes_query

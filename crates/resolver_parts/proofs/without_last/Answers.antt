@@ -1,6 +1,5 @@
 -- `resolver_parts::without_last` meets its contract.
 use Rattle.resolver_parts.proofs.ResultParts.{row_all, row_gone, first_stand, row_first}
-use borrow.Author.Rules.{rules}
 use Rattle.resolver_parts.proofs.without_last.Goals as goal
 
 pub returns-then-k-eq0 : goal.returns-then-k-eq0

@@ -9,7 +9,6 @@ use Rattle.rules.specs.Calls.{read_call}
 use Rattle.components.specs.Layout.{reading_laid, spans_after}
 use Rattle.round_trip.specs.declared.ReadBack.{ReadBack}
 use Rattle.round_trip.proofs.Rereading.{components_sized, length_within, same_contents}
-use borrow.Author.Rules.{rules}
 use Rattle.round_trip.proofs.reread.Goals as goal
 use Rattle.round_trip.proofs.reread.Goals.{After-written-n}
 

@@ -7,7 +7,6 @@ use Rattle.refusals.specs.declared.Verdict.{Verdict}
 use Rattle.refusals.specs.Answers.{verdict_is}
 use Rattle.outcomes.proofs.Answers.{right_refused, right_as}
 use Rattle.round_trip.proofs.Rewriting.{again_told, again_written}
-use borrow.Author.Rules.{rules}
 use Rattle.round_trip.proofs.rewrite.Goals as goal
 
 pub returns-in-Refused : goal.returns-in-Refused

@@ -7,7 +7,6 @@ use Rattle.outcomes.specs.Answers.{outcome_is}
 use Rattle.outcomes.proofs.Answers.{Right}
 use Rattle.sameness.specs.declared.Compared.{Compared}
 use Rattle.sameness.proofs.Answers.{length_inside, both_printed, both_answered}
-use borrow.Author.Rules.{rules}
 use Rattle.sameness.proofs.compare.Goals as goal
 
 pub wrote_same-requires : goal.wrote_same-requires

@@ -2,7 +2,6 @@
 use native.Mathlib.Omega.{arith}
 use Rattle.rules.proofs.Tools.{octets_of}
 use Rattle.sameness.proofs.Answers.{both_judged}
-use borrow.Author.Rules.{rules}
 use Rattle.sameness.proofs.judge.Goals as goal
 
 pub returns : goal.returns

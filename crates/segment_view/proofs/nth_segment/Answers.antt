@@ -8,7 +8,6 @@ use Rattle.rules.specs.Views.{segment_view}
 use Rattle.rules.specs.Meaning.{components}
 use Rattle.rules.specs.Model.{limits}
 use Rattle.reader.specs.Answers.{answer_is}
-use borrow.Author.Rules.{rules}
 use Rattle.segment_view.proofs.nth_segment.Goals as goal
 
 pub path_segment-requires : goal.path_segment-requires

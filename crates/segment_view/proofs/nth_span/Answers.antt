@@ -1,8 +1,7 @@
 -- `segment_view::nth_span` meets its contract.
 use Prim.Native.Nat.{suc}
 use native.Mathlib.Omega.{arith}
-use mathlib.Core.Path.{sym, ap, ◌∙◌, subst}
-use Rattle.rules.specs.Reader.{span_at}
+use mathlib.Core.Path.{sym, subst}
 use Rattle.rules.specs.Standing.{ItemStands}
 use Rattle.cbor_rows.proofs.Rows.{first_items, nth_stands}
 use Rattle.segment_view.proofs.nth_span.Goals as goal

@@ -3,7 +3,6 @@ use Prim.Native.Nat.{suc}
 use mathlib.Core.Path.{ap}
 use Rattle.rules.specs.Result.{ok, given}
 use Rattle.cbor_rows.proofs.Rows.{first_items, nth_span, no_span}
-use borrow.Author.Rules.{rules}
 use Rattle.segment_view.proofs.path_segment.Goals as goal
 
 pub nth_span-requires : goal.nth_span-requires

@@ -1,15 +1,13 @@
 -- `segment_view::segment` meets its contract: the part lies inside.
 use Prim.Native.Nat.{◌+◌, ◌≤◌}
-use native.Mathlib.Nat.{zero-add}
 use native.Mathlib.Omega.{arith}
-use mathlib.Core.Path.{refl, sym, ap, ◌∙◌}
+use mathlib.Core.Path.{sym, ap, ◌∙◌}
 use lib.ListN.{length}
 use Rattle.rules.proofs.Standing.{segment_inside}
 use Rattle.rules.proofs.Steps.{ok_at}
-use Rattle.rules.proofs.Tools.{octets_of, part_whole}
+use Rattle.rules.proofs.Tools.{octets_of}
 use Rattle.rules.specs.Model.{limits}
 use Rattle.segment_view.specs.Shown.{view_is}
-use borrow.Author.Rules.{rules}
 use Rattle.segment_view.proofs.segment.Goals as goal
 use Rattle.segment_view.proofs.segment.Goals.{In-At}
 

@@ -1,14 +1,10 @@
 -- `texts::dotted_length` meets its contract. The loop's invariant: what is left is to be added to the total, which is no more than the bytes passed.
-use Prim.Native.Nat.{◌+◌, ◌≤◌}
 use native.Mathlib.Omega.{arith}
-use mathlib.Core.Path.{◌≡◌, ap}
+use mathlib.Core.Path.{ap}
 use lib.ListN.{length}
-use Rattle.rules.specs.Reader.{contents}
-use Rattle.rules.specs.Standing.{RowAt}
-use Rattle.rules.proofs.RowWalk.{First, first, first_stands, none_left}
+use Rattle.rules.proofs.RowWalk.{First, first, none_left}
 use Rattle.texts.specs.Answers.{dotted_length}
 use Rattle.texts.proofs.RuleCases.{dotted_next}
-use borrow.Author.Rules.{rules}
 use Rattle.texts.proofs.dotted_length.Goals as goal
 use Rattle.texts.proofs.dotted_length.Goals.{After-span_at-span}
 

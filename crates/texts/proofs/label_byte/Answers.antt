@@ -7,7 +7,6 @@ use borrow.Author.Tests.{ne_eqb}
 use Rattle.rules.specs.Bytes.{dot}
 use Rattle.rules.specs.Rules.{upper, label_byte}
 use Rattle.rules.proofs.Tools.{by_test}
-use borrow.Author.Rules.{rules}
 use Rattle.texts.proofs.label_byte.Goals as goal
 
 -- a byte that is none of three is judged by the letters

@@ -1,13 +1,9 @@
 -- `texts::looks_ipv4` meets its contract. The loop's invariant: the labels that are left look as all do.
-use native.Mathlib.Omega.{arith}
-use mathlib.Core.Path.{◌≡◌, sym, ap, ◌∙◌}
+use mathlib.Core.Path.{◌≡◌}
 use Rattle.rules.specs.Bytes.{all}
 use Rattle.rules.specs.Rules.{octet, looks_ipv4}
 use Rattle.rules.specs.Reader.{contents}
 use Rattle.rules.specs.Standing.{RowAt}
-use Rattle.rules.proofs.RowWalk.{First, first, first_stands, none_left}
-use Rattle.texts.proofs.RuleCases.{looks_other, looks_four, all_next, all_no}
-use borrow.Author.Rules.{rules}
 use Rattle.texts.proofs.looks_ipv4.Given as goal
 
 abbrev pub invariant-loop-left : goal.invariant-loop-left

@@ -3,7 +3,6 @@ use native.Mathlib.Omega.{arith}
 use mathlib.Core.Path.{ap, ◌∙◌}
 use mathlib.Core.Bool.{not}
 use Rattle.texts.proofs.RuleCases.{name_long, name_looks}
-use borrow.Author.Rules.{rules}
 use Rattle.texts.proofs.name_rule.Goals as goal
 
 pub returns-then-dotted_length-gt-DOTTED_BYTES : goal.returns-then-dotted_length-gt-DOTTED_BYTES

@@ -1,6 +1,5 @@
 -- `texts::octet_1` meets its contract.
 use Rattle.rules.specs.Rules.{octet}
-use borrow.Author.Rules.{rules}
 use Rattle.texts.proofs.octet_1.Goals as goal
 
 pub returns : goal.returns

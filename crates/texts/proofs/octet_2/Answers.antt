@@ -1,7 +1,6 @@
 -- `texts::octet_2` meets its contract.
 use mathlib.Core.Path.{sym, ◌∙◌}
 use Rattle.rules.specs.Rules.{octet}
-use borrow.Author.Rules.{rules}
 use Rattle.texts.proofs.octet_2.Goals as goal
 
 pub returns-then-inside : goal.returns-then-inside

@@ -1,7 +1,6 @@
 -- `texts::octet_3` meets its contract.
 use mathlib.Core.Path.{sym, ◌∙◌}
 use Rattle.texts.proofs.RuleCases.{octet_three}
-use borrow.Author.Rules.{rules}
 use Rattle.texts.proofs.octet_3.Goals as goal
 
 pub returns-then-octet_1 : goal.returns-then-octet_1

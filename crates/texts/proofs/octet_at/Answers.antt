@@ -1,8 +1,5 @@
 -- `texts::octet_at` meets its contract.
-use mathlib.Core.Path.{sym, ap, ◌∙◌}
-use Rattle.rules.specs.Rules.{octet}
-use Rattle.texts.proofs.RuleCases.{part_one, part_two, part_three, no_octet}
-use borrow.Author.Rules.{rules}
+use Rattle.texts.proofs.RuleCases.{no_octet}
 use Rattle.texts.proofs.octet_at.Goals as goal
 
 pub returns-in_default : goal.returns-in_default

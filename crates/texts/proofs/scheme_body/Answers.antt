@@ -5,7 +5,6 @@ use Rattle.rules.specs.Head.{Text}
 use Rattle.rules.proofs.Steps.{need_yes, need_no, bind_ok, bind_refused, ok_at}
 use Rattle.texts.specs.Answers.{step_is}
 use Rattle.texts.proofs.RuleCases.{text_inside, scheme_then}
-use borrow.Author.Rules.{rules}
 use Rattle.texts.proofs.scheme_body.Goals as goal
 
 pub is_name-requires : goal.is_name-requires

@@ -3,7 +3,6 @@ use mathlib.Core.Path.{sym, ◌∙◌}
 use mathlib.Core.Bool.{or-false}
 use borrow.Author.Tests.{eq-eqb, ne_eqb}
 use Rattle.rules.specs.Rules.{scheme_byte}
-use borrow.Author.Rules.{rules}
 use Rattle.texts.proofs.scheme_byte.Goals as goal
 
 pub returns-then-inside : goal.returns-then-inside

@@ -1,9 +1,7 @@
 -- `texts::scheme_bytes` meets its contract. The loop's invariant: the test of what is left is the test of the whole.
 use Prim.Native.Nat.{◌+◌, ◌-◌}
-use mathlib.Core.Path.{sym, ◌∙◌}
 use Rattle.rules.specs.Rules.{scheme_byte}
-use Rattle.texts.proofs.ByteWalk.{Tested, tested_none, tested_next, tested_no, tested_all}
-use borrow.Author.Rules.{rules}
+use Rattle.texts.proofs.ByteWalk.{Tested}
 use Rattle.texts.proofs.scheme_bytes.Given as goal
 
 abbrev pub invariant-loop-i : goal.invariant-loop-i

@@ -1,7 +1,6 @@
 -- `texts::scheme_form` meets its contract.
 use mathlib.Core.Path.{sym, ◌∙◌}
 use Rattle.texts.specs.Answers.{scheme_form}
-use borrow.Author.Rules.{rules}
 use Rattle.texts.proofs.scheme_form.Goals as goal
 
 pub returns-then-starts_lower : goal.returns-then-starts_lower

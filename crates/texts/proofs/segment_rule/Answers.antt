@@ -1,7 +1,6 @@
 -- `texts::segment_rule` meets its contract.
 use mathlib.Core.Path.{sym, ◌∙◌}
 use Rattle.rules.specs.Rules.{segment_rule}
-use borrow.Author.Rules.{rules}
 use Rattle.texts.proofs.segment_rule.Goals as goal
 
 pub returns-then-same_at : goal.returns-then-same_at

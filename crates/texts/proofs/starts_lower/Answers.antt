@@ -3,7 +3,6 @@ use mathlib.Core.Path.{◌∙◌}
 use Rattle.rules.specs.Rules.{starts_lower}
 use Rattle.rules.proofs.Tools.{part_none}
 use Rattle.texts.proofs.RuleCases.{starts}
-use borrow.Author.Rules.{rules}
 use Rattle.texts.proofs.starts_lower.Goals as goal
 
 pub returns-then-n-eq0 : goal.returns-then-n-eq0

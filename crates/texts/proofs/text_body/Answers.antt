@@ -1,10 +1,8 @@
 -- `texts::text_body` meets its contract: the tests that led to each return are the steps of `text_body`.
 use native.Mathlib.Omega.{arith}
 use mathlib.Core.Path.{sym, ◌∙◌}
-use borrow.Author.Tests.{not-true, not-false}
 use Rattle.texts.specs.Answers.{sort_is}
 use Rattle.texts.proofs.RuleCases.{text_limit, text_cut, text_wrong, text_against, text_kept}
-use borrow.Author.Rules.{rules}
 use Rattle.texts.proofs.text_body.Goals as goal
 
 pub returns-then-not-length_fits : goal.returns-then-not-length_fits

@@ -4,7 +4,6 @@ use mathlib.Core.Path.{ap}
 use lib.ListN.{length}
 use Rattle.reader.specs.Answers.{opening_of}
 use Rattle.uri.proofs.PrintedParts.{origin_discard, origin_all, full_prints, origin_sum}
-use borrow.Author.Rules.{rules}
 use Rattle.uri.proofs.origin_length.Goals as goal
 
 pub overflow_add-result : goal.overflow_add-result

@@ -4,7 +4,6 @@ use borrow.Author.Tests.{leb-true, leb-false}
 use Rattle.outcomes.proofs.Answers.{right_full, right_done}
 use Rattle.reader.specs.Answers.{found_of}
 use Rattle.uri.specs.Printed.{text_at}
-use borrow.Author.Rules.{rules}
 use Rattle.uri.proofs.print.Goals as goal
 
 pub returns-then-has_room : goal.returns-then-has_room

@@ -4,7 +4,6 @@ use mathlib.Core.Path.{ap}
 use Rattle.put.proofs.Wrote.{wrote_then, wrote_as, wrote_none, wrote_length}
 use Rattle.reader.specs.Answers.{opening_of}
 use Rattle.uri.proofs.PrintedParts.{origin_discard, origin_all, origin_full, full_prints, origin_sum}
-use borrow.Author.Rules.{rules}
 use Rattle.uri.proofs.put_origin.Goals as goal
 
 pub put_scheme-p-requires : goal.put_scheme-p-requires

@@ -4,7 +4,6 @@ use Rattle.put.proofs.Wrote.{wrote_then, wrote_length}
 use Rattle.reader.specs.Answers.{found_of}
 use Rattle.uri.proofs.PrintedParts.{text_sum}
 use Rattle.uri.specs.Printed.{text_pieces}
-use borrow.Author.Rules.{rules}
 use Rattle.uri.proofs.put_text.Goals as goal
 
 pub put_origin-a-requires : goal.put_origin-a-requires

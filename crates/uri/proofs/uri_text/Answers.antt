@@ -5,7 +5,6 @@ use Rattle.outcomes.proofs.Answers.{right_refused, right_as}
 use Rattle.reader.specs.Answers.{answer_is}
 use Rattle.rules.proofs.Tools.{octets_of}
 use Rattle.uri.proofs.Printed.{prints, text_refused, text_relative, text_written}
-use borrow.Author.Rules.{rules}
 use Rattle.uri.proofs.uri_text.Goals as goal
 
 pub print-requires : goal.print-requires

@@ -1,13 +1,10 @@
 -- `uri_escape::common_of_eight` meets its contract: what is common so far, and what is left of the eight bytes.
-use Prim.Native.Nat.{◌+◌, ◌-◌, ◌≤◌}
-use native.Mathlib.Omega.{arith}
-use mathlib.Core.Path.{◌≡◌, sym, ap}
+use Prim.Native.Nat.{◌-◌, ◌≤◌}
+use mathlib.Core.Path.{◌≡◌}
 use mathlib.Core.Bool.{◌&&◌}
 use Rattle.rules.specs.Bytes.{part, all}
 use Rattle.rules.specs.Text.{Class, bare}
-use Rattle.rules.proofs.Tools.{part_whole}
 use Rattle.uri_escape.specs.Escape.{names}
-use Rattle.uri_escape.proofs.Table.{all_named, common_next, common_last}
 use Rattle.uri_escape.proofs.common_of_eight.Given as goal
 
 abbrev pub invariant-loop-i : goal.invariant-loop-i

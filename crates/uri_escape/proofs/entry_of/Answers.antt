@@ -1,6 +1,5 @@
 -- `uri_escape::entry_of` meets its contract: the table has the entry at its byte.
 use Rattle.put.specs.Tables.{Entries}
-use borrow.Author.Rules.{rules}
 use Rattle.uri_escape.proofs.entry_of.Goals as goal
 
 pub returns : goal.returns

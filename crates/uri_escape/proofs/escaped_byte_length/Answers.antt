@@ -2,7 +2,6 @@
 use mathlib.Core.Path.{sym, ap, ◌∙◌}
 use lib.ListN.{length}
 use Rattle.uri_escape.proofs.Escape.{byte_bare, byte_hex}
-use borrow.Author.Rules.{rules}
 use Rattle.uri_escape.proofs.escaped_byte_length.Goals as goal
 
 pub returns-then-is_bare : goal.returns-then-is_bare

@@ -3,7 +3,6 @@ use Prim.Native.Nat.{ℕ}
 use mathlib.Core.Path.{ap, ◌∙◌}
 use Rattle.uri_escape.specs.Escape.{class_is, names}
 use Rattle.uri_escape.proofs.Table.{named}
-use borrow.Author.Rules.{rules}
 use Rattle.uri_escape.proofs.is_bare.Goals as goal
 
 pub returns : goal.returns

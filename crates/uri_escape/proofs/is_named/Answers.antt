@@ -5,7 +5,6 @@ use mathlib.Core.Bool.{not}
 use lib.Dec.{eqb}
 use lib.Bits.{bit_and}
 use Rattle.uri_escape.specs.Escape.{names}
-use borrow.Author.Rules.{rules}
 use Rattle.uri_escape.proofs.is_named.Goals as goal
 
 pub returns : goal.returns

@@ -1,14 +1,10 @@
 -- `uri_escape::length_by_bytes` meets its contract: what is left to count is what is left of the part.
-use Prim.Native.Nat.{◌+◌, ◌-◌, ◌≤◌}
-use native.Mathlib.Omega.{arith}
+use Prim.Native.Nat.{◌-◌, ◌≤◌}
 use lib.ListN.{length}
 use Rattle.rules.specs.Bytes.{part}
-use Rattle.rules.specs.Text.{escape, escape_byte}
-use Rattle.rules.proofs.Tools.{length_part}
-use Rattle.rules.proofs.Escapes.{escape_length}
-use Rattle.put.proofs.Wrote.{Count, count_whole, count_next, counted, count_last}
+use Rattle.rules.specs.Text.{escape}
+use Rattle.put.proofs.Wrote.{Count}
 use Rattle.uri_escape.specs.Escape.{class_is}
-use Rattle.uri_escape.proofs.Escape.{escape_none, escape_step}
 use Rattle.uri_escape.proofs.length_by_bytes.Given as goal
 
 abbrev pub invariant-loop-i : goal.invariant-loop-i

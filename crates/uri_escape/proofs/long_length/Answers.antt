@@ -4,7 +4,6 @@ use lib.ListN.{length}
 use Rattle.rules.proofs.Tools.{length_part}
 use Rattle.uri_escape.specs.Escape.{class_is}
 use Rattle.uri_escape.proofs.Escape.{escape_bare}
-use borrow.Author.Rules.{rules}
 use Rattle.uri_escape.proofs.long_length.Goals as goal
 
 pub returns-then-stand_bare : goal.returns-then-stand_bare

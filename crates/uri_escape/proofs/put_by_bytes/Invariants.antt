@@ -1,12 +1,9 @@
 -- `uri_escape::put_by_bytes` meets its contract: what is left to write is what is left of the part, escaped.
-use Prim.Native.Nat.{◌+◌, ◌-◌, ◌≤◌}
-use native.Mathlib.Omega.{arith}
-use lib.ListN.{get_or}
+use Prim.Native.Nat.{◌-◌, ◌≤◌}
 use Rattle.rules.specs.Bytes.{part}
-use Rattle.rules.specs.Text.{escape, escape_byte}
-use Rattle.put.proofs.Wrote.{Left, Next, left_whole, next, next_room, next_wrote, last}
+use Rattle.rules.specs.Text.{escape}
+use Rattle.put.proofs.Wrote.{Left}
 use Rattle.uri_escape.specs.Escape.{class_is}
-use Rattle.uri_escape.proofs.Escape.{escape_none, escape_step}
 use Rattle.uri_escape.proofs.put_by_bytes.Given as goal
 
 abbrev pub invariant-loop-i : goal.invariant-loop-i

@@ -10,7 +10,6 @@ use Rattle.put.proofs.Wrote.{wrote_one, wrote_three}
 use Rattle.put.specs.Tables.{Entries}
 use Rattle.uri_escape.specs.Escape.{class_is}
 use Rattle.uri_escape.proofs.Escape.{byte_bare, byte_hex}
-use borrow.Author.Rules.{rules}
 use Rattle.uri_escape.proofs.put_escaped_byte.Goals as goal
 use Rattle.uri_escape.proofs.put_escaped_byte.Goals.{Else-is_bare, Then-is_bare}
 

@@ -8,7 +8,6 @@ use Rattle.rules.proofs.Tools.{length_part}
 use Rattle.put.proofs.Wrote.{wrote_as}
 use Rattle.uri_escape.specs.Escape.{class_is}
 use Rattle.uri_escape.proofs.Escape.{escape_bare}
-use borrow.Author.Rules.{rules}
 use Rattle.uri_escape.proofs.put_long.Goals as goal
 use Rattle.uri_escape.proofs.put_long.Goals.{Then-stand_bare}
 

@@ -1,14 +1,10 @@
 -- `uri_escape::stand_bare` meets its contract: the first k bytes stand bare.
-use Prim.Native.Nat.{◌+◌, ◌-◌, ◌≤◌}
-use native.Mathlib.Omega.{arith}
-use mathlib.Core.Path.{◌≡◌, refl, sym, ◌∙◌}
+use Prim.Native.Nat.{◌-◌, ◌≤◌}
+use mathlib.Core.Path.{◌≡◌}
 use mathlib.Core.Bool.{true}
-use mathlib.Core.Logic.{⊎_elim}
 use Rattle.rules.specs.Bytes.{part, all}
 use Rattle.rules.specs.Text.{bare}
 use Rattle.uri_escape.specs.Escape.{class_is}
-use Rattle.uri_escape.proofs.Table.{all_next, all_not}
-use borrow.Author.Rules.{rules}
 use Rattle.uri_escape.proofs.stand_bare.Given as goal
 
 abbrev pub invariant-loop-k : goal.invariant-loop-k

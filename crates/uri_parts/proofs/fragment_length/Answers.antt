@@ -4,7 +4,6 @@ use mathlib.Core.Path.{ap}
 use lib.ListN.{length}
 use Rattle.reader.specs.Answers.{slot_of}
 use Rattle.uri_parts.proofs.Pieces.{fragment_unset, fragment_set}
-use borrow.Author.Rules.{rules}
 use Rattle.uri_parts.proofs.fragment_length.Goals as goal
 
 pub overflow_add-result : goal.overflow_add-result

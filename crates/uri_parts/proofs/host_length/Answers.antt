@@ -5,7 +5,6 @@ use lib.ListN.{length}
 use Rattle.reader.specs.Answers.{host_of}
 use Rattle.rules.specs.Bytes.{dot, slash}
 use Rattle.uri_parts.proofs.Pieces.{host_address, host_labels}
-use borrow.Author.Rules.{rules}
 use Rattle.uri_parts.proofs.host_length.Goals as goal
 
 pub address_length-requires : goal.address_length-requires

@@ -4,7 +4,6 @@ use lib.ListN.{length}
 use Rattle.reader.specs.Answers.{slot_of}
 use Rattle.rules.specs.Bytes.{slash}
 use Rattle.uri_parts.proofs.Pieces.{path_unset, path_set}
-use borrow.Author.Rules.{rules}
 use Rattle.uri_parts.proofs.path_length.Goals as goal
 
 pub returns-in-Unset : goal.returns-in-Unset

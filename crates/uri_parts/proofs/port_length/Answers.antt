@@ -4,7 +4,6 @@ use mathlib.Core.Path.{ap}
 use lib.ListN.{length}
 use Rattle.reader.specs.Answers.{port_of}
 use Rattle.uri_parts.proofs.Pieces.{port_none, port_some}
-use borrow.Author.Rules.{rules}
 use Rattle.uri_parts.proofs.port_length.Goals as goal
 
 pub overflow_add-result : goal.overflow_add-result

@@ -5,7 +5,6 @@ use lib.ListN.{length}
 use Rattle.put.proofs.Wrote.{wrote_then, wrote_as, wrote_none, wrote_length}
 use Rattle.reader.specs.Answers.{slot_of}
 use Rattle.uri_parts.proofs.Pieces.{fragment_unset, fragment_set}
-use borrow.Author.Rules.{rules}
 use Rattle.uri_parts.proofs.put_fragment.Goals as goal
 
 pub put_byte-p-requires : goal.put_byte-p-requires

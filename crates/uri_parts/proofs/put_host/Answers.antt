@@ -5,7 +5,6 @@ use lib.ListN.{length}
 use Rattle.put.proofs.Wrote.{wrote_then, wrote_as, wrote_length}
 use Rattle.reader.specs.Answers.{host_of}
 use Rattle.uri_parts.proofs.Pieces.{host_address, host_labels}
-use borrow.Author.Rules.{rules}
 use Rattle.uri_parts.proofs.put_host.Goals as goal
 
 pub put_address-requires : goal.put_address-requires

@@ -5,7 +5,6 @@ use lib.ListN.{length}
 use Rattle.put.proofs.Wrote.{wrote_then, wrote_as, wrote_none, wrote_length}
 use Rattle.reader.specs.Answers.{port_of}
 use Rattle.uri_parts.proofs.Pieces.{port_none, port_some}
-use borrow.Author.Rules.{rules}
 use Rattle.uri_parts.proofs.put_port.Goals as goal
 
 pub put_byte-q-requires : goal.put_byte-q-requires

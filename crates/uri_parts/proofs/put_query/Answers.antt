@@ -5,7 +5,6 @@ use lib.ListN.{length}
 use Rattle.put.proofs.Wrote.{wrote_as, wrote_none}
 use Rattle.reader.specs.Answers.{slot_of}
 use Rattle.uri_parts.proofs.Pieces.{query_unset, query_set}
-use borrow.Author.Rules.{rules}
 use Rattle.uri_parts.proofs.put_query.Goals as goal
 
 pub put_row-requires : goal.put_row-requires

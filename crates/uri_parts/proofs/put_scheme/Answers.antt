@@ -6,7 +6,6 @@ use Rattle.put.proofs.Wrote.{wrote_as, wrote_none}
 use Rattle.reader.specs.Answers.{scheme_of}
 use Rattle.rules.proofs.Tools.{length_part}
 use Rattle.uri_parts.proofs.Pieces.{scheme_none, scheme_number_lem, scheme_name_lem}
-use borrow.Author.Rules.{rules}
 use Rattle.uri_parts.proofs.put_scheme.Goals as goal
 
 pub put_name-requires : goal.put_name-requires

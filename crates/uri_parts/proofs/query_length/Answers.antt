@@ -4,7 +4,6 @@ use lib.ListN.{length}
 use Rattle.reader.specs.Answers.{slot_of}
 use Rattle.rules.specs.Bytes.{question, ampersand}
 use Rattle.uri_parts.proofs.Pieces.{query_unset, query_set}
-use borrow.Author.Rules.{rules}
 use Rattle.uri_parts.proofs.query_length.Goals as goal
 
 pub returns-in-Unset : goal.returns-in-Unset

@@ -4,7 +4,6 @@ use lib.ListN.{length}
 use Rattle.reader.specs.Answers.{scheme_of}
 use Rattle.rules.proofs.Tools.{length_part}
 use Rattle.uri_parts.proofs.Pieces.{scheme_none, scheme_number_lem, scheme_name_lem}
-use borrow.Author.Rules.{rules}
 use Rattle.uri_parts.proofs.scheme_length.Goals as goal
 
 pub returns-in-Unset : goal.returns-in-Unset

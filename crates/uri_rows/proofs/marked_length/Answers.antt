@@ -4,14 +4,11 @@ use native.Mathlib.Omega.{arith}
 use mathlib.Core.Path.{ap}
 use lib.ListN.{length}
 use Rattle.rules.specs.Reader.{contents}
-use Rattle.rules.specs.Standing.{RowAt}
-use Rattle.rules.proofs.RowWalk.{First, first, first_stands}
-use Rattle.put.proofs.Wrote.{Count, count_all, counted}
+use Rattle.rules.proofs.RowWalk.{First, first}
+use Rattle.put.proofs.Wrote.{counted}
 use Rattle.uri_escape.specs.Escape.{class_is}
-use Rattle.uri_rows.specs.Marked.{marked_each}
 use Rattle.uri_rows.proofs.Marked.{marked_length, marked_most}
 use Rattle.uri_rows.proofs.MarkedTurns.{turn_count, none_marked}
-use borrow.Author.Rules.{rules}
 use Rattle.uri_rows.proofs.marked_length.Goals as goal
 use Rattle.uri_rows.proofs.marked_length.Goals.{After-escaped_length, After-span_at-span}
 

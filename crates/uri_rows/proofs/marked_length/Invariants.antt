@@ -1,17 +1,10 @@
 -- `uri_rows::marked_length` meets its contract: what is left to count is the texts that are left. The marks are 0 here: the length does not depend on them.
-use Prim.Native.Nat.{◌+◌, ◌<◌, ◌^◌}
-use native.Mathlib.Omega.{arith}
-use mathlib.Core.Path.{ap}
 use lib.ListN.{length}
 use Rattle.rules.specs.Reader.{contents}
 use Rattle.rules.specs.Standing.{RowAt}
-use Rattle.rules.proofs.RowWalk.{First, first, first_stands}
-use Rattle.put.proofs.Wrote.{Count, count_all, counted}
+use Rattle.put.proofs.Wrote.{Count}
 use Rattle.uri_escape.specs.Escape.{class_is}
 use Rattle.uri_rows.specs.Marked.{marked_each}
-use Rattle.uri_rows.proofs.Marked.{marked_length, marked_most}
-use Rattle.uri_rows.proofs.MarkedTurns.{turn_count, none_marked}
-use borrow.Author.Rules.{rules}
 use Rattle.uri_rows.proofs.marked_length.Given as goal
 
 abbrev pub invariant-loop-left : goal.invariant-loop-left

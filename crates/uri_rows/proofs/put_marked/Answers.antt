@@ -1,13 +1,9 @@
 -- `uri_rows::put_marked` meets its contract: what is left to write is the texts that are left, the first of them after the mark.
 use native.Mathlib.Omega.{arith}
-use Rattle.rules.specs.Reader.{contents}
-use Rattle.rules.specs.Standing.{RowAt}
-use Rattle.rules.proofs.RowWalk.{First, first, first_stands}
-use Rattle.put.proofs.Wrote.{Left, left_all, left_done, next_room, next_wrote, wrote_then, wrote_length}
+use Rattle.rules.proofs.RowWalk.{First, first}
+use Rattle.put.proofs.Wrote.{left_done, next_room, next_wrote, wrote_then, wrote_length}
 use Rattle.uri_escape.specs.Escape.{class_is}
-use Rattle.uri_rows.specs.Marked.{marked_each}
 use Rattle.uri_rows.proofs.MarkedTurns.{turn_next, none_marked}
-use borrow.Author.Rules.{rules}
 use Rattle.uri_rows.proofs.put_marked.Goals as goal
 use Rattle.uri_rows.proofs.put_marked.Goals.{After-span_at-span}
 

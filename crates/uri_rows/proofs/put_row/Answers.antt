@@ -3,7 +3,6 @@ use mathlib.Core.Path.{sym}
 use Rattle.put.proofs.Wrote.{wrote_as}
 use Rattle.uri_escape.specs.Escape.{class_is}
 use Rattle.uri_rows.proofs.Marked.{row_none, row_some}
-use borrow.Author.Rules.{rules}
 use Rattle.uri_rows.proofs.put_row.Goals as goal
 
 pub returns-then-count-eq0 : goal.returns-then-count-eq0

@@ -5,7 +5,6 @@ use Rattle.rules.proofs.Standing.{none_lie}
 use Rattle.writer.proofs.Added.{added_none, added_as, added_bytes}
 use Rattle.writer.proofs.AddedItems.{one_lies, one_lying, one_item, no_authority_lem, null_authority}
 use Rattle.writer.specs.AddedItems.{authority_items}
-use borrow.Author.Rules.{rules}
 use Rattle.writer.proofs.add_authority.Goals as goal
 
 pub returns-then-further-eq0 : goal.returns-then-further-eq0

@@ -2,7 +2,6 @@
 use mathlib.Core.Path.{sym, ◌∙◌}
 use Rattle.writer.proofs.Added.{added_none, added_bytes}
 use Rattle.writer.proofs.AddedItems.{no_discard, a_discard}
-use borrow.Author.Rules.{rules}
 use Rattle.writer.proofs.add_discard.Goals as goal
 
 pub returns-then-discard_items-eq0 : goal.returns-then-discard_items-eq0

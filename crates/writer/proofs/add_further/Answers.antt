@@ -4,7 +4,6 @@ use mathlib.Core.Path.{sym, ◌∙◌}
 use Rattle.components.specs.Content.{components_of}
 use Rattle.writer.proofs.Added.{added_none, added_as, added_then}
 use Rattle.writer.proofs.AddedItems.{tail_none, tail_one, tail_more, counted_each}
-use borrow.Author.Rules.{rules}
 use Rattle.writer.proofs.add_further.Goals as goal
 
 pub returns-then-further-eq0 : goal.returns-then-further-eq0

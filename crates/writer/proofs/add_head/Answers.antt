@@ -2,8 +2,6 @@
 use native.Mathlib.Omega.{arith}
 use Rattle.cbor.specs.Heads.{kind_is}
 use Rattle.cbor_heads.proofs.ShortestHead.{head_most}
-use Rattle.writer.proofs.Added.{added_wrote, added_over}
-use borrow.Author.Rules.{rules}
 use Rattle.writer.proofs.add_head.Goals as goal
 
 pub overflow_sub-head_length : goal.overflow_sub-head_length

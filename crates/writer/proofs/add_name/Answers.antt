@@ -2,7 +2,6 @@
 use native.Mathlib.Omega.{arith}
 use Rattle.writer.proofs.Added.{added_as, added_then}
 use Rattle.writer.proofs.AddedItems.{labels_said, port_most}
-use borrow.Author.Rules.{rules}
 use Rattle.writer.proofs.add_name.Goals as goal
 
 pub overflow_add-n : goal.overflow_add-n

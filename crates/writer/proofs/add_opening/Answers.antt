@@ -7,7 +7,6 @@ use Rattle.rules.proofs.Standing.{none_lie}
 use Rattle.writer.specs.AddedItems.{opening_items}
 use Rattle.writer.proofs.Added.{added_as, added_then}
 use Rattle.writer.proofs.AddedItems.{opening_lies, opening_each}
-use borrow.Author.Rules.{rules}
 use Rattle.writer.proofs.add_opening.Goals as goal
 
 pub returns-in-Discard : goal.returns-in-Discard

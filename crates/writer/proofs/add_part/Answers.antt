@@ -3,7 +3,6 @@ use native.Mathlib.Omega.{arith}
 use Rattle.cbor.specs.Heads.{span_is}
 use Rattle.writer.proofs.Added.{added_wrote, added_over}
 use Rattle.writer.proofs.AddedItems.{lies, lying, length_taken}
-use borrow.Author.Rules.{rules}
 use Rattle.writer.proofs.add_part.Goals as goal
 
 pub returns-then-lent-span : goal.returns-then-lent-span

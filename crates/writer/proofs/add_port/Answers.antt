@@ -3,7 +3,6 @@ use Rattle.rules.specs.Bytes.{concat}
 use Rattle.rules.specs.Encode.{port_items}
 use Rattle.writer.proofs.Added.{added_none, added_bytes}
 use Rattle.writer.proofs.AddedItems.{one_item}
-use borrow.Author.Rules.{rules}
 use Rattle.writer.proofs.add_port.Goals as goal
 
 pub returns-in-Unset : goal.returns-in-Unset

@@ -6,7 +6,6 @@ use Rattle.components.specs.Content.{path_place, query_place, components_of}
 use Rattle.writer.specs.AddedItems.{said_by, tail_of}
 use Rattle.writer.proofs.Added.{added_as, added_then}
 use Rattle.writer.proofs.AddedItems.{opening_most, tail_most, encode_said, all_lie, each_lies, counted_each}
-use borrow.Author.Rules.{rules}
 use Rattle.writer.proofs.add_reference.Goals as goal
 
 pub overflow_add-opening_items : goal.overflow_add-opening_items

@@ -6,7 +6,6 @@ use Rattle.rules.proofs.Standing.{none_lie}
 use Rattle.writer.specs.AddedItems.{string_item}
 use Rattle.writer.proofs.Added.{added_as}
 use Rattle.writer.proofs.AddedItems.{one_lies, one_lying}
-use borrow.Author.Rules.{rules}
 use Rattle.writer.proofs.add_scheme.Goals as goal
 
 pub returns-in-Unset : goal.returns-in-Unset

@@ -4,7 +4,6 @@ use Rattle.rules.specs.Encode.{or_null}
 use Rattle.rules.proofs.Standing.{none_lie}
 use Rattle.writer.proofs.Added.{added_as, added_then}
 use Rattle.writer.proofs.AddedItems.{texts_said}
-use borrow.Author.Rules.{rules}
 use Rattle.writer.proofs.add_slot.Goals as goal
 
 pub returns-in-Unset : goal.returns-in-Unset

@@ -1,7 +1,6 @@
 -- `writer::add_string` meets its contract.
 use Rattle.writer.proofs.Added.{added_as, added_then}
 use Rattle.writer.proofs.AddedItems.{string_said}
-use borrow.Author.Rules.{rules}
 use Rattle.writer.proofs.add_string.Goals as goal
 
 pub returns : goal.returns

@@ -1,12 +1,10 @@
 -- `writer::add_texts` meets its contract: after each turn the texts from place i on are left.
 use native.Mathlib.Omega.{arith}
-use Prim.Native.Nat.{◌+◌, ◌-◌, ◌*◌, ◌≤◌}
+use Prim.Native.Nat.{◌+◌, ◌-◌}
 use lib.ListN.{drop}
-use Rattle.components.specs.Content.{spans_of, most_numbers}
+use Rattle.components.specs.Content.{spans_of}
 use Rattle.components.proofs.Content.{spans_next, spans_end}
-use Rattle.writer.proofs.Added.{rest_whole}
-use Rattle.writer.proofs.AddedTexts.{TextsLeft, texts_next, texts_end}
-use borrow.Author.Rules.{rules}
+use Rattle.writer.proofs.AddedTexts.{texts_next, texts_end}
 use Rattle.writer.proofs.add_texts.Goals as goal
 
 pub loop-left-preserved : goal.loop-left-preserved

@@ -1,12 +1,8 @@
 -- `writer::add_texts` meets its contract: after each turn the texts from place i on are left.
-use native.Mathlib.Omega.{arith}
-use Prim.Native.Nat.{◌+◌, ◌-◌, ◌*◌, ◌≤◌}
+use Prim.Native.Nat.{◌+◌, ◌*◌, ◌≤◌}
 use lib.ListN.{drop}
 use Rattle.components.specs.Content.{spans_of, most_numbers}
-use Rattle.components.proofs.Content.{spans_next, spans_end}
-use Rattle.writer.proofs.Added.{rest_whole}
-use Rattle.writer.proofs.AddedTexts.{TextsLeft, texts_next, texts_end}
-use borrow.Author.Rules.{rules}
+use Rattle.writer.proofs.AddedTexts.{TextsLeft}
 use Rattle.writer.proofs.add_texts.Given as goal
 
 abbrev pub invariant-loop-left : goal.invariant-loop-left

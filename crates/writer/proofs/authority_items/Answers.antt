@@ -3,7 +3,6 @@ use mathlib.Core.Path.{refl, sym, ap}
 use Rattle.writer.proofs.AddedItems.{no_authority_lem, null_authority}
 use Rattle.writer.specs.AddedItems.{authority_items}
 use lib.ListN.{length}
-use borrow.Author.Rules.{rules}
 use Rattle.writer.proofs.authority_items.Goals as goal
 
 pub returns-then-further-eq0 : goal.returns-then-further-eq0

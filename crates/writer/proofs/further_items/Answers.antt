@@ -1,7 +1,6 @@
 -- `writer::further_items` meets its contract.
 use mathlib.Core.Path.{refl}
 use Rattle.rules.specs.Encode.{tail_items}
-use borrow.Author.Rules.{rules}
 use Rattle.writer.proofs.further_items.Goals as goal
 
 pub returns-in-Is : goal.returns-in-Is

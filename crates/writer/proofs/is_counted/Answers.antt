@@ -6,7 +6,6 @@ use borrow.Author.Tests.{lt-leb, le-leb}
 use Rattle.rules.specs.Model.{limits, most_labels, most_parameters}
 use Rattle.components.specs.Content.{label_count, text_count}
 use Rattle.writer.proofs.AddedItems.{counted_by}
-use borrow.Author.Rules.{rules}
 use Rattle.writer.proofs.is_counted.Goals as goal
 
 pub returns-then-label_count-gt-LABELS : goal.returns-then-label_count-gt-LABELS

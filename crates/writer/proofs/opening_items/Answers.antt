@@ -8,7 +8,6 @@ use Rattle.rules.specs.Model.{map_authority}
 use Rattle.rules.specs.Reader.{taken}
 use Rattle.components.specs.Content.{authority_of}
 use Rattle.writer.specs.AddedItems.{opening_items}
-use borrow.Author.Rules.{rules}
 use Rattle.writer.proofs.opening_items.Goals as goal
 
 pub overflow_add-result : goal.overflow_add-result

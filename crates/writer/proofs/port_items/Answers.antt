@@ -1,7 +1,6 @@
 -- `writer::port_items` meets its contract.
 use Rattle.rules.specs.Encode.{port_items}
 use mathlib.Core.Path.{refl}
-use borrow.Author.Rules.{rules}
 use Rattle.writer.proofs.port_items.Goals as goal
 
 pub returns-in-Unset : goal.returns-in-Unset

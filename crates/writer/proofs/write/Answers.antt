@@ -4,8 +4,6 @@ use native.Mathlib.Omega.{arith}
 use mathlib.Core.Path.{◌≡◌, refl, sym, ap, ◌∙◌}
 use mathlib.Core.Bool.{true}
 use lib.ListN.{take}
-use lib.Seq.{length-take-le}
-use borrow.Author.Tests.{not-true, not-false}
 use Rattle.rules.specs.Bytes.{Bytes}
 use Rattle.rules.specs.Model.{Components, limits, map_parts}
 use Rattle.rules.specs.Reader.{taken, read}
@@ -15,9 +13,7 @@ use Rattle.rules.specs.Result.{ok}
 use Rattle.reader.specs.Answers.{answer_is}
 use Rattle.components.specs.Content.{components_of}
 use Rattle.outcomes.proofs.Answers.{right_refused, right_as}
-use Rattle.writer.proofs.Added.{added_size}
 use Rattle.writer.proofs.CallCases.{call_uncounted, call_refused, call_written, call_over, made}
-use borrow.Author.Rules.{rules}
 use Rattle.writer.proofs.write.Goals as goal
 use Rattle.writer.proofs.write.Goals.{After-add_reference-n, After-read}
 
