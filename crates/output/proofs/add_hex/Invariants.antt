@@ -1,7 +1,6 @@
 -- `output::add_hex` is safe and ends: what is left is the rest of the bytes.
 use Prim.Native.Nat.{◌≤◌, ◌-◌}
 use lib.ListN.{length}
-use borrow.Author.Rules.{rules}
 use Rattle.output.proofs.add_hex.Given as goal
 
 abbrev pub invariant-loop-i : goal.invariant-loop-i
