@@ -20,7 +20,7 @@ pub const ROOM: usize = 4 * BYTES;
 
 // ---- words. What is wrong with a line is what was wrong first.
 
-#[derive(Drop)]
+#[derive(Clone, Copy)]
 pub enum Fault {
     None,
     Missing,
@@ -37,7 +37,7 @@ pub enum Fault {
 }
 
 // The end of the words taken so far, and what was wrong with them.
-#[derive(Drop)]
+#[derive(Clone, Copy)]
 pub struct Cursor {
     pub at: usize,
     pub fault: Fault,

@@ -79,7 +79,7 @@ pub fn extent_at(s: &[u8], at: usize) -> Extent
 // ---- the walk
 
 // What an item is for.
-#[derive(Drop)]
+#[derive(Clone, Copy)]
 pub enum Role {
     Link,
     Opening,
@@ -92,7 +92,7 @@ pub enum Role {
 }
 
 // An item of a link.
-#[derive(Drop)]
+#[derive(Clone, Copy)]
 pub struct Walk {
     // Where it stands.
     pub at: usize,
