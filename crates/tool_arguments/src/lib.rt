@@ -60,7 +60,7 @@ pub fn warn_fault(fault: Fault) {
 }
 
 // How many bytes an argument says, at the start of a room; or what is wrong with it.
-#[derive(Drop)]
+#[derive(Clone, Copy)]
 pub struct TakenBytes {
     pub length: usize,
     pub fault: Fault,
@@ -222,7 +222,7 @@ pub fn take_address(rt: &impl Env, room: &mut [u8], i: usize) -> TakenBytes {
 }
 
 // A port, or what is wrong with it.
-#[derive(Drop)]
+#[derive(Clone, Copy)]
 pub struct TakenPort {
     pub value: u16,
     pub fault: Fault,

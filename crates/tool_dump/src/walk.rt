@@ -32,7 +32,7 @@ fn width_at(s: &[u8], at: usize) -> usize
 }
 
 // Where the first byte of an item ends, where its head does, and where its content does: that of a byte string or a text.
-#[derive(Drop)]
+#[derive(Clone, Copy)]
 pub struct Extent {
     pub first: usize,
     pub head: usize,
