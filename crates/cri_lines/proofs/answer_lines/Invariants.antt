@@ -1,7 +1,6 @@
 -- `cri_lines::answer_lines` is safe and ends: what is left is the input after the end of the line.
 use Prim.Native.Nat.{◌≤◌, ◌-◌}
 use lib.ListN.{length}
-use borrow.Author.Rules.{rules}
 use Rattle.cri_lines.proofs.answer_lines.Given as goal
 
 abbrev pub invariant-loop-end : goal.invariant-loop-end
