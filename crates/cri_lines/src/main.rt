@@ -4,7 +4,8 @@
 ghost use Rattle.std.specs.Prelude.{◌≤◌, length};
 
 use numbers::BYTES;
-use output::{Output, add_byte, add_number, add_text, flush, least};
+use output::{Output, STDOUT, add_byte, add_number, add_text, flush, least};
+use std::io::{Read, Stdin};
 use words::find;
 
 // The bytes of the longest line: with place for two links and a room in hex, and for components in words.
@@ -40,7 +41,7 @@ fn answer_lines(out: &mut Output, input: &[u8], kept: usize) -> usize
         at = end + 1;
         end = find(input, at, b'\n');
     }
-    flush(out, used, libc::STDOUT_FILENO);
+    flush(out, used, STDOUT);
     at
 }
 
@@ -58,13 +59,15 @@ fn keep(input: &mut [u8], from: usize, end: usize) -> usize
     n
 }
 
-// Reads once, to a place of the input. The result is the place after what was read: the same one where the input has ended.
-fn read_to(input: &mut [u8], at: usize) -> usize
+// Reads once, to a place of the input. The result is the place after what was read: the same one where the input has ended, or can't be read.
+fn read_to(stdin: &mut Stdin, input: &mut [u8], at: usize) -> usize
     requires { at ≤ length input.old }
     ensures { (at ≤ result) × (result ≤ length input.new) }
 {
-    let got = libc::read(libc::STDIN_FILENO, &mut input[at..]);
-    at + io::count(got, &input[at..])
+    match stdin.read(&mut input[at..]) {
+        Ok(n) => at + n,
+        Err(_) => at,
+    }
 }
 
 // Between two reads: how many bytes of an unfinished line stand at the start of the input, and whether the input goes on.
@@ -75,15 +78,15 @@ struct State {
 }
 
 // Reads once, and answers the lines that end in what was read; where the input has ended, the unfinished one.
-fn answer_some(out: &mut Output, input: &mut [u8], kept: usize) -> State
+fn answer_some(stdin: &mut Stdin, out: &mut Output, input: &mut [u8], kept: usize) -> State
     requires { kept ≤ length input.old }
     ensures { result.kept ≤ length input.new }
 {
-    let end = read_to(input, kept);
+    let end = read_to(stdin, input, kept);
     if end == kept {
         if 0 < kept {
             let used = answer_line(out, 0, &input[0..kept]);
-            flush(out, used, libc::STDOUT_FILENO);
+            flush(out, used, STDOUT);
         }
         return State {
             kept: 0,
@@ -98,20 +101,20 @@ fn answer_some(out: &mut Output, input: &mut [u8], kept: usize) -> State
 }
 
 // A proved loop has to end, and nothing says that the input does. So the loop counts its turns down, from a number that no run uses up.
-fn answer_all(out: &mut Output, input: &mut [u8]) {
+fn answer_all(stdin: &mut Stdin, out: &mut Output, input: &mut [u8]) {
     let mut turns = u64::MAX;
     let mut kept = 0;
     let mut more = true;
     while 0 < turns && more {
-        let state = answer_some(out, input, kept);
+        let state = answer_some(stdin, out, input, kept);
         kept = state.kept;
         more = state.more;
         turns -= 1;
     }
 }
 
-fn main() {
+fn main(rt: HostRuntime) {
     let mut input = [0u8; INPUT];
     let mut out = io::large_buffer();
-    answer_all(&mut out, &mut input);
+    answer_all(&mut rt.stdin(), &mut out, &mut input);
 }

@@ -20,7 +20,7 @@ pub const ROOM: usize = 4 * BYTES;
 
 // ---- words. What is wrong with a line is what was wrong first.
 
-#[derive(Drop)]
+#[derive(Clone, Copy)]
 pub enum Fault {
     None,
     Missing,
@@ -37,7 +37,7 @@ pub enum Fault {
 }
 
 // The end of the words taken so far, and what was wrong with them.
-#[derive(Drop)]
+#[derive(Clone, Copy)]
 pub struct Cursor {
     pub at: usize,
     pub fault: Fault,
@@ -51,14 +51,14 @@ struct Word {
 }
 
 // The bytes that a word said, at the start of a room, and the place after the word.
-#[derive(Drop)]
+#[derive(Clone, Copy)]
 pub struct TakenBytes {
     pub length: usize,
     pub rest: Cursor,
 }
 
 // The number that a word said, and the place after the word.
-#[derive(Drop)]
+#[derive(Clone, Copy)]
 pub struct TakenNumber {
     pub value: u64,
     pub rest: Cursor,
@@ -202,7 +202,7 @@ pub fn take_number(line: &[u8], c: Cursor) -> TakenNumber {
 }
 
 // The number of 16 bits that a word said, and the place after the word.
-#[derive(Drop)]
+#[derive(Clone, Copy)]
 pub struct TakenNumber16 {
     pub value: u16,
     pub rest: Cursor,
@@ -230,7 +230,7 @@ pub fn take_number_16(line: &[u8], c: Cursor) -> TakenNumber16 {
 }
 
 // How much of a room is lent, and the place after the word that said it.
-#[derive(Drop)]
+#[derive(Clone, Copy)]
 pub struct TakenRoom {
     pub length: usize,
     pub rest: Cursor,
@@ -520,7 +520,7 @@ fn take_fragment(line: &[u8], c: Cursor) -> TakenFragment {
 
 // ---- all of them
 
-#[derive(Drop)]
+#[derive(Clone, Copy)]
 pub struct TakenComponents {
     pub components: Components,
     pub rest: Cursor,

@@ -7,6 +7,11 @@ ghost use Rattle.io.specs.Counts.{IsPrefixLen};
 // What `io::large_buffer` makes.
 pub type Output = [u8; 65536];
 
+// The descriptors of standard output and standard error.
+pub const STDOUT: i32 = 1;
+
+pub const STDERR: i32 = 2;
+
 // The smaller of two numbers.
 pub fn least(a: usize, b: usize) -> usize
     ensures { (result ≤ a) × (result ≤ b) }
@@ -33,7 +38,7 @@ pub fn add_byte(out: &mut Output, used: usize, b: u8) -> usize {
         out[used] = b;
         return used + 1;
     }
-    flush(out, used, libc::STDOUT_FILENO);
+    flush(out, used, STDOUT);
     out[0] = b;
     1
 }

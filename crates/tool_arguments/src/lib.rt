@@ -2,11 +2,15 @@
 #![tactic(auto)]
 
 use numbers::PORT;
-use output::at_most;
+use output::{STDERR, at_most};
+use std::env::{Env, FillError};
 use tool_input::{Destination, Hex};
 
+// The descriptor of standard input.
+const STDIN: i32 = 0;
+
 // What is wrong with an argument.
-#[derive(Drop)]
+#[derive(Clone, Copy)]
 pub enum Fault {
     None,
     Missing,
@@ -31,7 +35,7 @@ pub fn is_fault(fault: Fault) -> bool {
 }
 
 pub fn warn(text: &[u8]) {
-    io::write_all(libc::STDERR_FILENO, text);
+    io::write_all(STDERR, text);
 }
 
 // What is wrong, after the argument's name.
@@ -56,7 +60,7 @@ pub fn warn_fault(fault: Fault) {
 }
 
 // How many bytes an argument says, at the start of a room; or what is wrong with it.
-#[derive(Drop)]
+#[derive(Clone, Copy)]
 pub struct TakenBytes {
     pub length: usize,
     pub fault: Fault,
@@ -81,18 +85,28 @@ fn bytes_of(hex: Hex) -> TakenBytes {
     }
 }
 
+// Whether there is an argument i.
+fn is_given(rt: &impl Env, i: usize) -> bool {
+    match rt.arg(i, &mut []) {
+        Err(FillError::NotPresent) => false,
+        _ => true,
+    }
+}
+
 // Whether the argument is "-".
-fn is_dash(i: usize) -> bool {
+fn is_dash(rt: &impl Env, i: usize) -> bool {
     let mut word = [0u8; 2];
-    let n = os::arg(i, &mut word);
-    check::same(&word[..n], b"-")
+    match rt.arg(i, &mut word) {
+        Ok(n) => check::same(&word[..n], b"-"),
+        Err(_) => false,
+    }
 }
 
 // The bytes that hex on standard input says.
 fn take_input(room: &mut [u8]) -> TakenBytes {
     let mut word = io::large_buffer();
     let mut scratch = io::large_buffer();
-    let n = io::read_full(libc::STDIN_FILENO, &mut word);
+    let n = io::read_full(STDIN, &mut word);
     if 65535 < n {
         return no_bytes(Fault::TooLong);
     }
@@ -100,36 +114,35 @@ fn take_input(room: &mut [u8]) -> TakenBytes {
 }
 
 // The bytes that an argument of hex says.
-fn take_word(room: &mut [u8], i: usize) -> TakenBytes {
+fn take_word(rt: &impl Env, room: &mut [u8], i: usize) -> TakenBytes {
     let mut word = io::large_buffer();
     let mut scratch = io::large_buffer();
-    let n = os::arg(i, &mut word);
-    if os::errno() != 0 {
-        return no_bytes(Fault::TooLong);
+    match rt.arg(i, &mut word) {
+        Ok(n) => bytes_of(tool_input::hex_bytes(room, &mut scratch, &word[..n])),
+        Err(_) => no_bytes(Fault::TooLong),
     }
-    bytes_of(tool_input::hex_bytes(room, &mut scratch, &word[..n]))
 }
 
 // Whether another argument before this one is "-" too.
-fn was_dash(i: usize) -> bool {
-    if i == 3 { is_dash(2) } else { false }
+fn was_dash(rt: &impl Env, i: usize) -> bool {
+    if i == 3 { is_dash(rt, 2) } else { false }
 }
 
 // The bytes that argument i says, of `count` arguments in all.
-pub fn take_hex(room: &mut [u8], i: usize, count: usize) -> TakenBytes {
-    if os::arg_count() <= i {
+pub fn take_hex(rt: &impl Env, room: &mut [u8], i: usize, count: usize) -> TakenBytes {
+    if !is_given(rt, i) {
         return no_bytes(Fault::Missing);
     }
-    if count < os::arg_count() {
+    if is_given(rt, count) {
         return no_bytes(Fault::TooMany);
     }
-    if is_dash(i) {
-        if was_dash(i) {
+    if is_dash(rt, i) {
+        if was_dash(rt, i) {
             return no_bytes(Fault::TwoDashes);
         }
         return take_input(room);
     }
-    take_word(room, i)
+    take_word(rt, room, i)
 }
 
 // Puts a word at a place of the room. The result is the place after it; the length where it does not fit.
@@ -148,38 +161,34 @@ fn put_word(room: &mut [u8], at: usize, word: &[u8]) -> usize {
 }
 
 // The same of an argument.
-fn put_argument(room: &mut [u8], at: usize, i: usize) -> usize {
+fn put_argument(rt: &impl Env, room: &mut [u8], at: usize, i: usize) -> usize {
     let mut word = io::buffer();
-    let n = os::arg(i, &mut word);
-    if os::errno() != 0 {
-        return room.len();
+    match rt.arg(i, &mut word) {
+        Ok(n) => put_word(room, at, &word[..n]),
+        Err(_) => room.len(),
     }
-    put_word(room, at, &word[..n])
 }
 
 // Arguments 2 and on, put after one another. The result is how long they are.
-fn join_arguments(room: &mut [u8], count: usize) -> usize {
+fn join_arguments(rt: &impl Env, room: &mut [u8]) -> usize {
     let mut at = 0;
-    let mut i = 2;
-    while i < count {
-        at = put_argument(room, at, i);
-        i += 1;
+    for i in 2..usize::MAX {
+        if !is_given(rt, i) {
+            break;
+        }
+        at = put_argument(rt, room, at, i);
     }
     at
 }
 
 // The bytes that all arguments after the command say together.
-pub fn take_joined(room: &mut [u8]) -> TakenBytes {
-    let count = os::arg_count();
-    if count < 3 {
-        return no_bytes(Fault::Missing);
-    }
-    if count == 3 {
-        return take_hex(room, 2, 3);
+pub fn take_joined(rt: &impl Env, room: &mut [u8]) -> TakenBytes {
+    if !is_given(rt, 3) {
+        return take_hex(rt, room, 2, 3);
     }
     let mut word = io::large_buffer();
     let mut scratch = io::large_buffer();
-    let n = join_arguments(&mut word, count);
+    let n = join_arguments(rt, &mut word);
     if 65535 < n {
         return no_bytes(Fault::TooLong);
     }
@@ -202,21 +211,18 @@ fn address_of(address: Destination) -> TakenBytes {
 }
 
 // The bytes of the address that argument i says.
-pub fn take_address(room: &mut [u8], i: usize) -> TakenBytes {
+pub fn take_address(rt: &impl Env, room: &mut [u8], i: usize) -> TakenBytes {
     let mut word = io::buffer();
     let mut scratch = io::buffer();
-    let n = os::arg(i, &mut word);
-    if os::errno() == libc::EINVAL {
-        return no_bytes(Fault::Missing);
+    match rt.arg(i, &mut word) {
+        Ok(n) => address_of(tool_input::address_bytes(room, &mut scratch, &word[..n])),
+        Err(FillError::NotPresent) => no_bytes(Fault::Missing),
+        Err(FillError::TooLong) => no_bytes(Fault::AddressTooLong),
     }
-    if os::errno() != 0 {
-        return no_bytes(Fault::AddressTooLong);
-    }
-    address_of(tool_input::address_bytes(room, &mut scratch, &word[..n]))
 }
 
 // A port, or what is wrong with it.
-#[derive(Drop)]
+#[derive(Clone, Copy)]
 pub struct TakenPort {
     pub value: u16,
     pub fault: Fault,
@@ -239,19 +245,21 @@ fn port_of(n: u64) -> TakenPort {
     no_port(Fault::PortTooLarge)
 }
 
-// The port that argument i says.
-pub fn take_port(i: usize) -> TakenPort {
-    let mut word = io::buffer();
-    let n = os::arg(i, &mut word);
-    if os::errno() == libc::EINVAL {
-        return no_port(Fault::Missing);
-    }
-    if os::errno() != 0 {
-        return no_port(Fault::PortTooLarge);
-    }
-    match words::decimal(&word[..n]) {
+// The port that a word says.
+fn port_said(word: &[u8]) -> TakenPort {
+    match words::decimal(word) {
         words::Number::Is(v) => port_of(v),
         words::Number::NotDecimal => no_port(Fault::NotDecimal),
         words::Number::TooLarge => no_port(Fault::PortTooLarge),
+    }
+}
+
+// The port that argument i says.
+pub fn take_port(rt: &impl Env, i: usize) -> TakenPort {
+    let mut word = io::buffer();
+    match rt.arg(i, &mut word) {
+        Ok(n) => port_said(&word[..n]),
+        Err(FillError::NotPresent) => no_port(Fault::Missing),
+        Err(FillError::TooLong) => no_port(Fault::PortTooLarge),
     }
 }

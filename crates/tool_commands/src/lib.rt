@@ -4,7 +4,8 @@
 
 use cri::{Outcome, Refusal, Verdict};
 use numbers::{BASE, BYTES, DEST, OPTIONS_ROOM, RESULT, TEXT_ROOM};
-use output::at_most;
+use output::{STDERR, STDOUT, at_most};
+use std::env::Env;
 use tool_arguments::{
     Fault, is_fault, take_address, take_hex, take_joined, take_port, warn, warn_fault,
 };
@@ -12,7 +13,7 @@ use tool_messages::{
     say, say_address, say_bytes, say_components, say_hex, say_options, say_refusal,
 };
 
-#[derive(Drop)]
+#[derive(Clone, Copy)]
 enum Command {
     Show,
     Dump,
@@ -74,7 +75,7 @@ fn complain(command: Command, argument: &[u8], fault: Fault) {
 
 // A refusal of an argument.
 fn refuse(argument: &[u8], s: &[u8], refusal: Refusal) {
-    say_refusal(libc::STDERR_FILENO, argument, s, refusal);
+    say_refusal(STDERR, argument, s, refusal);
 }
 
 // The same of an argument that is refused.
@@ -116,7 +117,7 @@ fn show(s: &[u8]) {
     let verdict = reading.verdict;
     let components = reading.components;
     match verdict {
-        Verdict::Refused(refusal) => say_refusal(libc::STDOUT_FILENO, b"HEX", s, refusal),
+        Verdict::Refused(refusal) => say_refusal(STDOUT, b"HEX", s, refusal),
         Verdict::Accepted => {
             say_components(s, &spans, components);
             say_uri_text(b"text      ", s);
@@ -138,9 +139,9 @@ fn run_on(command: Command, s: &[u8]) {
 }
 
 // A command that has HEX alone, which may be several arguments.
-fn run_on_hex(command: Command) {
+fn run_on_hex(rt: &impl Env, command: Command) {
     let mut room = [0u8; 32768];
-    let taken = take_joined(&mut room);
+    let taken = take_joined(rt, &mut room);
     let fault = taken.fault;
     if is_fault(fault) {
         return complain(command, b"HEX", fault);
@@ -190,9 +191,9 @@ fn say_resolved(base: &[u8], reference: &[u8]) {
 }
 
 // From the reference on.
-fn resolve_against(base: &[u8]) {
+fn resolve_against(rt: &impl Env, base: &[u8]) {
     let mut room = [0u8; 32768];
-    let taken = take_hex(&mut room, 3, 4);
+    let taken = take_hex(rt, &mut room, 3, 4);
     let fault = taken.fault;
     if is_fault(fault) {
         return complain(Command::Resolve, b"REFERENCE", fault);
@@ -202,15 +203,15 @@ fn resolve_against(base: &[u8]) {
 }
 
 // resolve BASE REFERENCE: the resolved CRI in hex, and its URI text.
-fn resolve() {
+fn resolve(rt: &impl Env) {
     let mut room = [0u8; 32768];
-    let taken = take_hex(&mut room, 2, 4);
+    let taken = take_hex(rt, &mut room, 2, 4);
     let fault = taken.fault;
     if is_fault(fault) {
         return complain(Command::Resolve, b"BASE", fault);
     }
     let n = at_most(taken.length, &room);
-    resolve_against(&room[..n]);
+    resolve_against(rt, &room[..n]);
 }
 
 // ---- options
@@ -220,7 +221,7 @@ fn say_destination(address: &[u8], port: u16) {
     say(b"to        ");
     say_address(address);
     say(b", port ");
-    io::print_decimal(libc::STDOUT_FILENO, port as u64);
+    io::print_decimal(STDOUT, port as u64);
     say(b"\n");
 }
 
@@ -252,8 +253,8 @@ fn say_request(s: &[u8], address: &[u8], port: u16) {
 }
 
 // From the port on.
-fn request_to(s: &[u8], address: &[u8]) {
-    let port = take_port(4);
+fn request_to(rt: &impl Env, s: &[u8], address: &[u8]) {
+    let port = take_port(rt, 4);
     let fault = port.fault;
     if is_fault(fault) {
         return complain(Command::Options, b"PORT", fault);
@@ -262,27 +263,27 @@ fn request_to(s: &[u8], address: &[u8]) {
 }
 
 // From the address on.
-fn request_of(s: &[u8]) {
+fn request_of(rt: &impl Env, s: &[u8]) {
     let mut room = [0u8; 16];
-    let taken = take_address(&mut room, 3);
+    let taken = take_address(rt, &mut room, 3);
     let fault = taken.fault;
     if is_fault(fault) {
         return complain(Command::Options, b"ADDRESS", fault);
     }
     let n = at_most(taken.length, &room);
-    request_to(s, &room[..n]);
+    request_to(rt, s, &room[..n]);
 }
 
 // options HEX ADDRESS PORT: where the request is sent, each option, and the bytes of all.
-fn options() {
+fn options(rt: &impl Env) {
     let mut room = [0u8; 32768];
-    let taken = take_hex(&mut room, 2, 5);
+    let taken = take_hex(rt, &mut room, 2, 5);
     let fault = taken.fault;
     if is_fault(fault) {
         return complain(Command::Options, b"HEX", fault);
     }
     let n = at_most(taken.length, &room);
-    request_of(&room[..n]);
+    request_of(rt, &room[..n]);
 }
 
 // ---- same
@@ -311,9 +312,9 @@ fn say_same(first: &[u8], second: &[u8]) {
 }
 
 // From the second on.
-fn same_as(first: &[u8]) {
+fn same_as(rt: &impl Env, first: &[u8]) {
     let mut room = [0u8; 32768];
-    let taken = take_hex(&mut room, 3, 4);
+    let taken = take_hex(rt, &mut room, 3, 4);
     let fault = taken.fault;
     if is_fault(fault) {
         return complain(Command::Same, b"the second HEX", fault);
@@ -323,15 +324,15 @@ fn same_as(first: &[u8]) {
 }
 
 // same HEX HEX: whether the two are the same CRI, and both texts.
-fn same() {
+fn same(rt: &impl Env) {
     let mut room = [0u8; 32768];
-    let taken = take_hex(&mut room, 2, 4);
+    let taken = take_hex(rt, &mut room, 2, 4);
     let fault = taken.fault;
     if is_fault(fault) {
         return complain(Command::Same, b"the first HEX", fault);
     }
     let n = at_most(taken.length, &room);
-    same_as(&room[..n]);
+    same_as(rt, &room[..n]);
 }
 
 // ---- help
@@ -348,25 +349,25 @@ fn help() {
 
 // ---- the whole
 
-fn run(command: Command) {
+fn run(rt: &impl Env, command: Command) {
     match command {
-        Command::Show => run_on_hex(command),
-        Command::Dump => run_on_hex(command),
-        Command::Text => run_on_hex(command),
-        Command::Resolve => resolve(),
-        Command::Options => options(),
-        Command::Same => same(),
+        Command::Show => run_on_hex(rt, command),
+        Command::Dump => run_on_hex(rt, command),
+        Command::Text => run_on_hex(rt, command),
+        Command::Resolve => resolve(rt),
+        Command::Options => options(rt),
+        Command::Same => same(rt),
         Command::Help => help(),
         Command::Unknown => complain(command, b"the command", Fault::Unknown),
     }
 }
 
 // Runs the command that the first argument names.
-pub fn run_arguments() {
+pub fn run_arguments(rt: &impl Env) {
     let mut name = io::buffer();
-    let n = os::arg(1, &mut name);
+    let n = rt.arg(1, &mut name).unwrap_or(0);
     if n == 0 {
         return complain(Command::Unknown, b"the command", Fault::Missing);
     }
-    run(command_of(&name[..n]));
+    run(rt, command_of(&name[..n]));
 }

@@ -9,7 +9,7 @@ mod walk;
 use lines::{say_fault, say_items};
 use notation::say_notation;
 use numbers::BYTES;
-use output::at_most;
+use output::{STDOUT, at_most};
 use reader::Answer;
 use refusals::Refusal;
 use tool_messages::say_refusal;
@@ -17,7 +17,7 @@ use tool_messages::say_refusal;
 // The items before the one at fault, and that one. Of an input that is too long no item is looked at.
 fn say_refused(s: &[u8], refusal: Refusal) {
     if BYTES < s.len() {
-        return say_refusal(libc::STDOUT_FILENO, b"HEX", s, refusal);
+        return say_refusal(STDOUT, b"HEX", s, refusal);
     }
     let w = say_items(s, at_most(refusal.place, s));
     say_fault(s, w, refusal.number);

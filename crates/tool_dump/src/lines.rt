@@ -4,7 +4,7 @@ ghost use Rattle.std.specs.Prelude.{◌≤◌, ◌<◌, length};
 use crate::meanings::{say_meaning, say_name};
 use crate::walk::{Extent, Role, Walk, extent_at, item_at, walk_on, walk_start};
 use cbor::Item;
-use output::{Output, add_byte, add_hex, add_text, flush};
+use output::{Output, STDOUT, add_byte, add_hex, add_text, flush};
 use tool_messages::{add_blanks, add_offset, say, say_count, say_number, say_reason};
 
 // ---- offset and bytes
@@ -95,7 +95,7 @@ fn write_start(out: &mut Output, s: &[u8], w: Walk)
     requires { w.at ≤ length s.now }
 {
     let used = add_start(out, s, w);
-    flush(out, used, libc::STDOUT_FILENO);
+    flush(out, used, STDOUT);
 }
 
 fn say_start(s: &[u8], w: Walk)
@@ -171,7 +171,7 @@ fn say_item_at_fault(s: &[u8], w: Walk)
 fn write_mark(out: &mut Output, w: Walk) {
     let at = add_blanks(out, 0, 6 + indent(w));
     let used = add_text(out, at, b"^^ ");
-    flush(out, used, libc::STDOUT_FILENO);
+    flush(out, used, STDOUT);
 }
 
 fn say_mark(w: Walk) {
@@ -185,5 +185,5 @@ pub fn say_fault(s: &[u8], w: Walk, number: u8)
 {
     say_item_at_fault(s, w);
     say_mark(w);
-    say_reason(libc::STDOUT_FILENO, number);
+    say_reason(STDOUT, number);
 }

@@ -3,7 +3,7 @@ ghost use Rattle.std.specs.Prelude.{◌<◌, length};
 
 use crate::walk::{Role, Walk, extent_at, item_at, walk_on, walk_start};
 use cbor::Item;
-use output::{Output, add_byte, add_pair, add_text, flush};
+use output::{Output, STDOUT, add_byte, add_pair, add_text, flush};
 use tool_messages::{say, say_hex, say_negative, say_number};
 
 // ---- a text, as a string of JSON
@@ -53,7 +53,7 @@ fn add_string(out: &mut Output, text: &[u8]) -> usize {
 
 fn write_string(out: &mut Output, text: &[u8]) {
     let used = add_string(out, text);
-    flush(out, used, libc::STDOUT_FILENO);
+    flush(out, used, STDOUT);
 }
 
 fn say_string(text: &[u8]) {

@@ -32,7 +32,7 @@ fn width_at(s: &[u8], at: usize) -> usize
 }
 
 // Where the first byte of an item ends, where its head does, and where its content does: that of a byte string or a text.
-#[derive(Drop)]
+#[derive(Clone, Copy)]
 pub struct Extent {
     pub first: usize,
     pub head: usize,
@@ -79,7 +79,7 @@ pub fn extent_at(s: &[u8], at: usize) -> Extent
 // ---- the walk
 
 // What an item is for.
-#[derive(Drop)]
+#[derive(Clone, Copy)]
 pub enum Role {
     Link,
     Opening,
@@ -92,7 +92,7 @@ pub enum Role {
 }
 
 // An item of a link.
-#[derive(Drop)]
+#[derive(Clone, Copy)]
 pub struct Walk {
     // Where it stands.
     pub at: usize,

@@ -5,7 +5,7 @@ use crate::{Hex, hex_bytes, lower};
 use words::{find, value_of};
 
 // How many bytes the address has; or why the word is no address.
-#[derive(Drop)]
+#[derive(Clone, Copy)]
 pub enum Destination {
     Bytes(usize),
     NotDotted,

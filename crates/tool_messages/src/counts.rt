@@ -1,8 +1,9 @@
 // Numbers, and how many there are of something.
 use crate::quotes::say;
+use output::STDOUT;
 
 pub fn say_number(n: u64) {
-    io::print_decimal(libc::STDOUT_FILENO, n);
+    io::print_decimal(STDOUT, n);
 }
 
 // The negative number -1 - n.

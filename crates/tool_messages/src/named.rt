@@ -2,7 +2,7 @@
 ghost use Rattle.std.specs.Prelude.{◌≤◌, ◌<◌, length};
 
 use crate::quotes::{all_printable, say, say_bytes, say_quoted};
-use output::least;
+use output::{STDOUT, least};
 
 // One option: its number, where its value stands, and the place after it.
 #[derive(Drop)]
@@ -42,7 +42,7 @@ fn port_of(value: &[u8]) -> u64 {
 fn say_meant(number: usize, value: &[u8]) {
     if number == 7 {
         say(b" ");
-        io::print_decimal(libc::STDOUT_FILENO, port_of(value));
+        io::print_decimal(STDOUT, port_of(value));
         return;
     }
     if all_printable(value) {

@@ -1,15 +1,15 @@
 // Texts, bytes and addresses.
 use ipv4::put_ipv4;
 use ipv6::put_ipv6;
-use output::{Output, add_byte, add_hex, add_pair, add_text, flush};
+use output::{Output, STDOUT, add_byte, add_hex, add_pair, add_text, flush};
 
 pub fn say(text: &[u8]) {
-    io::write_all(libc::STDOUT_FILENO, text);
+    io::write_all(STDOUT, text);
 }
 
 fn write_hex(out: &mut Output, s: &[u8]) {
     let used = add_hex(out, 0, s);
-    flush(out, used, libc::STDOUT_FILENO);
+    flush(out, used, STDOUT);
 }
 
 // Bytes in hex.
@@ -73,7 +73,7 @@ fn add_quoted(out: &mut Output, s: &[u8]) -> usize {
 
 fn write_quoted(out: &mut Output, s: &[u8]) {
     let used = add_quoted(out, s);
-    flush(out, used, libc::STDOUT_FILENO);
+    flush(out, used, STDOUT);
 }
 
 // A text in quotation marks.

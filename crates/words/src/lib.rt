@@ -6,7 +6,7 @@ ghost use Rattle.put.specs.Wrote.{Wrote};
 ghost use Rattle.words.specs.Words.{value_of, are_digits, some_digits, decimal_from, if_fits, number_of, pair_bytes, is_dash, if_held, hex_of, room_after};
 
 // What a decimal word says.
-#[derive(Drop)]
+#[derive(Clone, Copy)]
 pub enum Number {
     Is(u64),
     NotDecimal,
@@ -15,7 +15,7 @@ pub enum Number {
 }
 
 // What a word of hex says.
-#[derive(Drop)]
+#[derive(Clone, Copy)]
 pub enum Hex {
     // How many bytes.
     Bytes(usize),

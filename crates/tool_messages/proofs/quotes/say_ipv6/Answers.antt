@@ -1,0 +1,21 @@
+-- `tool_messages::quotes::say_ipv6` is safe: its room is long enough for the text.
+use native.Mathlib.Omega.{arith}
+use mathlib.Core.Path.{sym}
+use lib.Seq.{length-take-le}
+use Rattle.put.proofs.Wrote.{wrote_length}
+use Rattle.ipv6.proofs.Mapped.{ipv6_fits}
+use Rattle.tool_messages.proofs.quotes.say_ipv6.Goals as goal
+use Rattle.tool_messages.proofs.quotes.say_ipv6.Goals.{After-room-2-1}
+
+pub put_ipv6-n-requires : goal.put_ipv6-n-requires
+put_ipv6-n-requires c =
+    let f = ipv6_fits c.args.a.now 0 (omega arith) in
+    record { from_in_bounds = omega arith; from_in_bounds_2 = omega (arith, f) }
+
+pub slice_bounds-room-end : goal.slice_bounds-room-end
+slice_bounds-room-end c =
+    let f = ipv6_fits c.args.a.now 0 (omega arith) in
+    omega (arith, f, wrote_length c.put_ipv6-n.ensures)
+
+pub slice_bounds-say-end : goal.slice_bounds-say-end
+slice_bounds-say-end c = sym (length-take-le _ _ (slice_bounds-room-end (goal.at.slice_bounds-say-end c).After-room-2-1))
