@@ -6,7 +6,7 @@ use std::process::{Child, ChildStdin, ChildStdout, Command, Stdio};
 use std::thread;
 
 /// Where the program stands, from the root of the repository. `CRI_LINES` names another.
-const PROGRAM: &str = "target/bin/cri_lines";
+const PROGRAM: &str = "crates/cri_lines/out/cri_lines";
 
 /// A request and the answer expected, without their line feeds.
 pub struct Case {
