@@ -14,7 +14,7 @@ use put::put_byte;
 // How long the text of an address is.
 pub fn address_length(s: &[u8], from: usize, n: usize) -> usize
     requires address_at { AddressAt s.now from n }
-    requires n_len_bound { length (address_text (part s.now from n)) < 2 ^ 64 }
+    requires text_fits { length (address_text (part s.now from n)) < 2 ^ 64 }
     ensures { result ≡ length (address_text (part s.now from n)) }
 {
     if n == 4 {

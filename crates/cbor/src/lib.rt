@@ -3,7 +3,7 @@
 
 ghost use Rattle.std.specs.Prelude.{◌≡◌, ℕ, ◌+◌, ◌<◌, ◌≤◌, length};
 ghost use Rattle.rules.specs.Bytes.{part, number_from};
-ghost use Rattle.rules.specs.Head.{Kind as Kind·rules, kind_of, width, read_head, Fits};
+ghost use Rattle.rules.specs.Head.{Kind as RulesKind, kind_of, width, read_head, Fits};
 ghost use Rattle.rules.specs.Reader.{span_at};
 ghost use Rattle.rules.specs.Standing.{ItemStands};
 ghost use Rattle.cbor.specs.Heads.{kind_is, allows, item_is, span_is, accepted, argument_is, least_of, read_argument};
@@ -145,7 +145,7 @@ fn least_of(info: u8) -> u64
 // The number that stands after the first byte of the head at a position.
 fn long_at(s: &[u8], at: usize, info: u8) -> Argument
     requires { (at < length s.now) × (24 ≤ info) × (info < 28) }
-    ensures { (k : Kind·rules) → argument_is k at result ≡ read_argument k info s.now at }
+    ensures { (k : RulesKind) → argument_is k at result ≡ read_argument k info s.now at }
 {
     let from = at + 1;
     let w = width_of(info);
@@ -165,7 +165,7 @@ fn long_at(s: &[u8], at: usize, info: u8) -> Argument
 // The number of the head at a position, by its head information: the lowest five bits of the first byte.
 fn argument_at(s: &[u8], at: usize, info: u8) -> Argument
     requires { at < length s.now }
-    ensures { (k : Kind·rules) → argument_is k at result ≡ read_argument k info s.now at }
+    ensures { (k : RulesKind) → argument_is k at result ≡ read_argument k info s.now at }
 {
     match info {
         0..=23 => Argument::Is {

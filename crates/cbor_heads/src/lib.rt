@@ -2,7 +2,7 @@
 #![tactic(auto)]
 
 ghost use Rattle.std.specs.Prelude.{◌≡◌, ◌+◌, ◌≤◌, length};
-ghost use Rattle.rules.specs.Head.{Kind as Kind·rules, shortest, major_of, head_bytes};
+ghost use Rattle.rules.specs.Head.{Kind as RulesKind, shortest, major_of, head_bytes};
 ghost use Rattle.put.specs.Wrote.{Wrote};
 ghost use Rattle.cbor.specs.Heads.{kind_is};
 
@@ -30,7 +30,7 @@ fn shortest_of(v: u64) -> u8
 
 // How many bytes the shortest head of a number has, for every kind.
 pub fn head_length(v: u64) -> usize
-    ensures { (k : Kind·rules) → result ≡ length (head_bytes k v) }
+    ensures { (k : RulesKind) → result ≡ length (head_bytes k v) }
 {
     match shortest_of(v) {
         24 => 2,
@@ -42,6 +42,7 @@ pub fn head_length(v: u64) -> usize
 }
 
 // STD 94, section 3: the major type of a kind.
+#[tactic(auto, unfolding(rules::specs::Head::major_of))]
 fn major_of(kind: Kind) -> u8
     ensures { result ≡ major_of (kind_is kind) }
 {

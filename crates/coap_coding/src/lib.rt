@@ -70,7 +70,7 @@ pub fn put_option(
 ) -> usize
     requires small { Small delta × Small n }
     requires n_in_bounds { from + n ≤ length src.now }
-    requires n_in_bounds_2 { at + length (option_bytes delta (part src.now from n)) ≤ length room.old }
+    requires room_enough { at + length (option_bytes delta (part src.now from n)) ≤ length room.old }
     ensures { Wrote room.old at (option_bytes delta (part src.now from n)) room.new result }
 {
     let p = put_byte(room, at, nibble_of(delta) * 16 + nibble_of(n));
@@ -84,7 +84,7 @@ pub fn put_option(
 // How long the options are.
 pub fn row_length(s: &[u8], at: usize, count: usize, delta: usize) -> usize
     requires row_at { RowAt s.now at count × AllSmall (contents s.now at count) }
-    requires s_len_bound { (length s.now ≤ limits.bytes) × Small delta }
+    requires link_size { (length s.now ≤ limits.bytes) × Small delta }
     ensures { result ≡ length (coded delta (contents s.now at count)) }
 {
     let mut next = at;

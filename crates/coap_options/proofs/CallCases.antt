@@ -29,35 +29,35 @@ use Rattle.coap_options.specs.Requests.{options_at, default_answer, number_answe
 
 -- ---- what the call answers
 
-module _ (bs toAddress : Bytes) (toPort : ℕ) where
-  pub address_refused : address_size (length toAddress) ≡ false → options_call limits bs toAddress toPort ≡ refused DEST 0
+module _ (bs to_address : Bytes) (to_port : ℕ) where
+  pub address_refused : address_size (length to_address) ≡ false → options_call limits bs to_address to_port ≡ refused DEST 0
   unfolding options_call need ◌>>◌
   address_refused e = rw e
 
   -- on a CRI
   abbrev asked : Cri → Res Bytes
-  asked c = given (coap_scheme c.scheme) COAP 0 >>= λ s. need (absent c.fragment) COAP 0 >> ok (options_from 0 (options c s toAddress toPort))
+  asked c = given (coap_scheme c.scheme) COAP 0 >>= λ s. need (absent c.fragment) COAP 0 >> ok (options_from 0 (options c s to_address to_port))
 
-  address_taken : address_size (length toAddress) ≡ true → options_call limits bs toAddress toPort ≡ (read_absolute limits bs >>= asked)
+  address_taken : address_size (length to_address) ≡ true → options_call limits bs to_address to_port ≡ (read_absolute limits bs >>= asked)
   unfolding options_call need ◌>>◌
   address_taken e = rw e
 
-  pub input_refused : address_size (length toAddress) ≡ true → (n k : ℕ) → read limits bs ≡ refused n k → options_call limits bs toAddress toPort ≡ refused n k
+  pub input_refused : address_size (length to_address) ≡ true → (n k : ℕ) → read limits bs ≡ refused n k → options_call limits bs to_address to_port ≡ refused n k
   unfolding read_absolute read_reference ◌>>=◌
   input_refused a n k e = address_taken a ∙ rw e
 
   -- whose scheme is a number, by its entry in the table
   entry_answered : (s : Scheme Bytes) (m : Option SchemeEntry) (a : AuthorityAt) (p q g : Slot) →
       let c : Cri = record { scheme = s; authority = said_authority bs a; path = elements (said_texts bs p); query = said_texts bs q; fragment = said_text bs g } in
-      (given m COAP 0 >>= λ s. need (absent c.fragment) COAP 0 >> ok (options_from 0 (options c s toAddress toPort)))
-      ≡ default_answer (map (λ (e : SchemeEntry). e.port) m) g (λ (d : ℕ). options_at bs a.host (get_or a.port d) p q toAddress toPort)
+      (given m COAP 0 >>= λ s. need (absent c.fragment) COAP 0 >> ok (options_from 0 (options c s to_address to_port)))
+      ≡ default_answer (map (λ (e : SchemeEntry). e.port) m) g (λ (d : ℕ). options_at bs a.host (get_or a.port d) p q to_address to_port)
   unfolding given need ◌>>=◌ ◌>>◌ options options_at default_answer
   entry_answered s none a p q g = refl
   entry_answered s (some e) a p q unset = refl
   entry_answered s (some e) a p q (set at n) = refl
 
   opening_answered : (o : OpeningAt) (p q g : Slot)
-      → (given (absolute (said bs o p q g)) BASE 0 >>= asked) ≡ opening_answer bs o (record { opening = o; path = p; query = q; fragment = g }) toAddress toPort
+      → (given (absolute (said bs o p q g)) BASE 0 >>= asked) ≡ opening_answer bs o (record { opening = o; path = p; query = q; fragment = g }) to_address to_port
   unfolding given ◌>>=◌ absolute default_port
   opening_answered (discard_at k) p q g = refl
   opening_answered discard_all_at p q g = refl
@@ -65,7 +65,7 @@ module _ (bs toAddress : Bytes) (toPort : ℕ) where
   opening_answered (full_at (number_at n) a) p q g = entry_answered _ (scheme_in schemes n) a p q g
   opening_answered (full_at (name_at at n) a) p q g = refl
 
-  pub found_answered : address_size (length toAddress) ≡ true → (f : Found) → read limits bs ≡ ok f → options_call limits bs toAddress toPort ≡ opening_answer bs f.opening f toAddress toPort
+  pub found_answered : address_size (length to_address) ≡ true → (f : Found) → read limits bs ≡ ok f → options_call limits bs to_address to_port ≡ opening_answer bs f.opening f to_address to_port
   found_answered a f e =
       address_taken a
       ∙ ap (λ (m : Res Cri). m >>= asked) (read_absolute_lem limits bs f e ∙ ap (λ (r : Reference). given (absolute r) BASE 0) (meaning_said bs f.opening f.path f.query f.fragment))
@@ -85,21 +85,21 @@ module _ {m : Option ℕ} (g : Slot) (w : ℕ → Bytes) where
   unfolding default_answer
   default_some e f = rw (e, f)
 
-module _ (bs : Bytes) (f : Found) (toAddress : Bytes) (toPort : ℕ) {o : OpeningAt} where
-  pub answers_discard : {k : ℕ} → o ≡ discard_at k → opening_answer bs o f toAddress toPort ≡ refused BASE 0
+module _ (bs : Bytes) (f : Found) (to_address : Bytes) (to_port : ℕ) {o : OpeningAt} where
+  pub answers_discard : {k : ℕ} → o ≡ discard_at k → opening_answer bs o f to_address to_port ≡ refused BASE 0
   answers_discard e = rw e
 
-  pub answers_all : o ≡ discard_all_at → opening_answer bs o f toAddress toPort ≡ refused BASE 0
+  pub answers_all : o ≡ discard_all_at → opening_answer bs o f to_address to_port ≡ refused BASE 0
   answers_all e = rw e
 
   module _ {s : SchemeAt} {a : AuthorityAt} (e : o ≡ full_at s a) where
-    pub answers_none : s ≡ no_scheme → opening_answer bs o f toAddress toPort ≡ refused BASE 0
+    pub answers_none : s ≡ no_scheme → opening_answer bs o f to_address to_port ≡ refused BASE 0
     answers_none d = rw (e, d)
 
-    pub answers_number : {n : ℕ} → s ≡ number_at n → opening_answer bs o f toAddress toPort ≡ number_answer bs n a f toAddress toPort
+    pub answers_number : {n : ℕ} → s ≡ number_at n → opening_answer bs o f to_address to_port ≡ number_answer bs n a f to_address to_port
     answers_number d = rw (e, d)
 
-    pub answers_name : {at n : ℕ} → s ≡ name_at at n → opening_answer bs o f toAddress toPort ≡ refused COAP 0
+    pub answers_name : {at n : ℕ} → s ≡ name_at at n → opening_answer bs o f to_address to_port ≡ refused COAP 0
     answers_name d = rw (e, d)
 
 -- ---- what is known of the positions

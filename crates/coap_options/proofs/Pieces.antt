@@ -68,12 +68,12 @@ value_most d (ValueV.Is n) s t f =
 
 -- ---- all of them
 
-pub pieces_sum : (hostSrc portSrc bs : Bytes) (r : Request) (d : Deltas)
-    → length (pieces_at hostSrc portSrc bs r d)
-    ≡ length (value_coded 3 (value_in hostSrc r.host)) + length (value_coded d.port (value_in portSrc r.port)) + length (coded d.path (contents bs r.path.at r.path.count)) + length (coded d.query (contents bs r.query.at r.query.count))
-pieces_sum hostSrc portSrc bs r d =
-    let h : Bytes = value_coded 3 (value_in hostSrc r.host) in
-    let p : Bytes = value_coded d.port (value_in portSrc r.port) in
+pub pieces_sum : (host_src port_src bs : Bytes) (r : Request) (d : Deltas)
+    → length (pieces_at host_src port_src bs r d)
+    ≡ length (value_coded 3 (value_in host_src r.host)) + length (value_coded d.port (value_in port_src r.port)) + length (coded d.path (contents bs r.path.at r.path.count)) + length (coded d.query (contents bs r.query.at r.query.count))
+pieces_sum host_src port_src bs r d =
+    let h : Bytes = value_coded 3 (value_in host_src r.host) in
+    let p : Bytes = value_coded d.port (value_in port_src r.port) in
     let s : Bytes = coded d.path (contents bs r.path.at r.path.count) in
     let q : Bytes = coded d.query (contents bs r.query.at r.query.count) in
     omega (arith, length-append h (p ++ (s ++ q)), length-append p (s ++ q), length-append s q)
@@ -126,14 +126,14 @@ all_from h p ss qs =
     rw port (one_from 0 3 h (one 7 p ++ (S ++ Q)))
     ∙ ap (options_from 0) (sym (append_assoc (one 3 h) (one 7 p) (S ++ Q)) ∙ sym (append_assoc (one 3 h ++ one 7 p) S Q))
 
-host_one : (h : Host Bytes) (toAddress : Bytes) → one 3 (host_value h toAddress) ≡ uri_host h toAddress
+host_one : (h : Host Bytes) (to_address : Bytes) → one 3 (host_value h to_address) ≡ uri_host h to_address
 unfolding host_value uri_host
-host_one (labels ls) toAddress = refl
-host_one (address a) toAddress = by_test (λ t. one 3 (cond t none (some (address_text a))) ≡ cond t [] (option 3 (address_text a) ∷ [])) (same a toAddress) (λ e. refl) (λ e. refl)
+host_one (labels ls) to_address = refl
+host_one (address a) to_address = by_test (λ t. one 3 (cond t none (some (address_text a))) ≡ cond t [] (option 3 (address_text a) ∷ [])) (same a to_address) (λ e. refl) (λ e. refl)
 
-port_one : (p toPort : ℕ) → one 7 (port_value p toPort) ≡ uri_port p toPort
+port_one : (p to_port : ℕ) → one 7 (port_value p to_port) ≡ uri_port p to_port
 unfolding port_value uri_port
-port_one p toPort = by_test (λ t. one 7 (cond t none (some (port_bytes p))) ≡ cond t [] (option 7 (port_bytes p) ∷ [])) (eqb p toPort) (λ e. refl) (λ e. refl)
+port_one p to_port = by_test (λ t. one 7 (cond t none (some (port_bytes p))) ≡ cond t [] (option 7 (port_bytes p) ∷ [])) (eqb p to_port) (λ e. refl) (λ e. refl)
 
 set_present : (src : Bytes) (v : Value) → is_set v ≡ present (value_in src v)
 set_present src ValueV.Unset = refl
@@ -142,29 +142,29 @@ set_present src (ValueV.Is n) = refl
 -- ---- a request whose values and texts were found
 
 -- what measuring and writing it ask, and that its pieces are w
-pub record Known (hostSrc portSrc bs : Bytes) (r : Request) (d : Deltas) (w : Bytes) : Type 0 where
+pub record Known (host_src port_src bs : Bytes) (r : Request) (d : Deltas) (w : Bytes) : Type 0 where
   pub stands : Stands bs r
   pub small : DeltasSmall d
-  pub host : Inside hostSrc r.host
-  pub port : Inside portSrc r.port
-  pub pieces : pieces_at hostSrc portSrc bs r d ≡ w
+  pub host : Inside host_src r.host
+  pub port : Inside port_src r.port
+  pub pieces : pieces_at host_src port_src bs r d ≡ w
 
-module _ (hostSrc portSrc bs : Bytes) (r : Request) (d : Deltas) (is : DeltasAre (is_set r.host) (is_set r.port) (ltb 0 r.path.count) d) where
+module _ (host_src port_src bs : Bytes) (r : Request) (d : Deltas) (is : DeltasAre (is_set r.host) (is_set r.port) (ltb 0 r.path.count) d) where
   pieces_from : let S = contents bs r.path.at r.path.count in let Q = contents bs r.query.at r.query.count in
-      pieces_at hostSrc portSrc bs r d ≡ options_from 0 (one 3 (value_in hostSrc r.host) ++ one 7 (value_in portSrc r.port) ++ map (option 11) S ++ map (option 15) Q)
+      pieces_at host_src port_src bs r d ≡ options_from 0 (one 3 (value_in host_src r.host) ++ one 7 (value_in port_src r.port) ++ map (option 11) S ++ map (option 15) Q)
   pieces_from =
       let n : r.path.count ≡ length (contents bs r.path.at r.path.count) = sym (length_contents bs r.path.at r.path.count) in
-      rw (is.port, is.path, is.query, set_present hostSrc r.host, set_present portSrc r.port, ap (ltb 0) n)
-      (all_from (value_in hostSrc r.host) (value_in portSrc r.port) (contents bs r.path.at r.path.count) (contents bs r.query.at r.query.count))
+      rw (is.port, is.path, is.query, set_present host_src r.host, set_present port_src r.port, ap (ltb 0) n)
+      (all_from (value_in host_src r.host) (value_in port_src r.port) (contents bs r.path.at r.path.count) (contents bs r.query.at r.query.count))
 
-  module _ (host : HostAt) (port : ℕ) (path query : Slot) (toAddress : Bytes) (toPort : ℕ)
-      (h : Valued hostSrc r.host (host_value (said_host bs host) toAddress)) (p : Valued portSrc r.port (port_value port toPort))
+  module _ (host : HostAt) (port : ℕ) (path query : Slot) (to_address : Bytes) (to_port : ℕ)
+      (h : Valued host_src r.host (host_value (said_host bs host) to_address)) (p : Valued port_src r.port (port_value port to_port))
       (s : RowOf bs r.path.at r.path.count (normal_path (elements (said_texts bs path)))) (q : RowOf bs r.query.at r.query.count (elements (said_texts bs query))) where
-    pieces_are : pieces_at hostSrc portSrc bs r d ≡ options_at bs host port path query toAddress toPort
+    pieces_are : pieces_at host_src port_src bs r d ≡ options_at bs host port path query to_address to_port
     unfolding options_at
-    pieces_are = pieces_from ∙ rw (h.says, p.says, s.says, q.says, host_one (said_host bs host) toAddress, port_one port toPort)
+    pieces_are = pieces_from ∙ rw (h.says, p.says, s.says, q.says, host_one (said_host bs host) to_address, port_one port to_port)
 
-    pub known : Known hostSrc portSrc bs r d (options_at bs host port path query toAddress toPort)
+    pub known : Known host_src port_src bs r d (options_at bs host port path query to_address to_port)
     known =
         record {
           stands = record { host = h.small; port = p.small; path = (s.stand, s.small); query = (q.stand, q.small) };

@@ -21,10 +21,10 @@ use Rattle.coap_options.specs.declared.Deltas.{Deltas}
 
 -- 7: the options of a request that has this host, port, path and query
 unfoldable pub options_at : Bytes → HostAt → ℕ → Slot → Slot → Bytes → ℕ → Bytes
-options_at bs host port path query toAddress toPort =
+options_at bs host port path query to_address to_port =
     options_from 0
-    (uri_host (said_host bs host) toAddress
-    ++ uri_port port toPort
+    (uri_host (said_host bs host) to_address
+    ++ uri_port port to_port
     ++ map (option 11) (normal_path (elements (said_texts bs path)))
     ++ map (option 15) (elements (said_texts bs query)))
 
@@ -36,16 +36,16 @@ default_answer (some d) unset w = ok (w d)
 
 -- 7.2: the port, or else the default
 abbrev pub number_answer : Bytes → ℕ → AuthorityAt → Found → Bytes → ℕ → Res Bytes
-number_answer bs n a f toAddress toPort =
-    default_answer (default_port n) f.fragment (λ (d : ℕ). options_at bs a.host (get_or a.port d) f.path f.query toAddress toPort)
+number_answer bs n a f to_address to_port =
+    default_answer (default_port n) f.fragment (λ (d : ℕ). options_at bs a.host (get_or a.port d) f.path f.query to_address to_port)
 
 -- 3.5: 8 where it is not absolute, 11 where the scheme is a text
 abbrev pub opening_answer : Bytes → OpeningAt → Found → Bytes → ℕ → Res Bytes
-opening_answer bs (discard_at k) f toAddress toPort = refused BASE 0
-opening_answer bs discard_all_at f toAddress toPort = refused BASE 0
-opening_answer bs (full_at no_scheme a) f toAddress toPort = refused BASE 0
-opening_answer bs (full_at (number_at n) a) f toAddress toPort = number_answer bs n a f toAddress toPort
-opening_answer bs (full_at (name_at at n) a) f toAddress toPort = refused COAP 0
+opening_answer bs (discard_at k) f to_address to_port = refused BASE 0
+opening_answer bs discard_all_at f to_address to_port = refused BASE 0
+opening_answer bs (full_at no_scheme a) f to_address to_port = refused BASE 0
+opening_answer bs (full_at (number_at n) a) f to_address to_port = number_answer bs n a f to_address to_port
+opening_answer bs (full_at (name_at at n) a) f to_address to_port = refused COAP 0
 
 -- ---- what is known of the positions
 
@@ -90,9 +90,9 @@ pub record DeltasAre (h p s : Bool) (d : Deltas) : Type 0 where
 
 -- the values at the starts of two byte strings, and the texts of an input
 abbrev pub pieces_at : Bytes → Bytes → Bytes → Request → Deltas → Bytes
-pieces_at hostSrc portSrc bs r d =
-    value_coded 3 (value_in hostSrc r.host)
-    ++ (value_coded d.port (value_in portSrc r.port)
+pieces_at host_src port_src bs r d =
+    value_coded 3 (value_in host_src r.host)
+    ++ (value_coded d.port (value_in port_src r.port)
     ++ (coded d.path (contents bs r.path.at r.path.count)
     ++ coded d.query (contents bs r.query.at r.query.count)))
 

@@ -104,9 +104,9 @@ fn put_value(room: &mut [u8], at: usize, delta: usize, src: &[u8], value: Value)
 
 // How long all options are.
 fn options_length(s: &[u8], request: Request, deltas: Deltas) -> usize
-    requires s_len_bound { length s.now ≤ limits.bytes }
+    requires link_size { length s.now ≤ limits.bytes }
     requires stands { Stands s.now request × DeltasSmall deltas }
-    ensures { (hostSrc portSrc : Bytes) → Inside hostSrc request.host → Inside portSrc request.port → result ≡ length (pieces_at hostSrc portSrc s.now request deltas) }
+    ensures { (host_src port_src : Bytes) → Inside host_src request.host → Inside port_src request.port → result ≡ length (pieces_at host_src port_src s.now request deltas) }
 {
     let host = request.host;
     let port = request.port;
@@ -155,7 +155,7 @@ fn requested(
     to_port: u64,
     room: &mut [u8],
 ) -> Outcome
-    requires s_len_bound { length s.now ≤ limits.bytes }
+    requires link_size { length s.now ≤ limits.bytes }
     requires host_asks { HostAsks s.now (host_of host) × (port ≤ 65535) }
     requires texts_ask { TextsAsk s.now (slot_of path) × TextsAsk s.now (slot_of query) }
     ensures result_value { outcome_is result ≡ outcome (ok (options_at s.now (host_of host) port (slot_of path) (slot_of query) to_address.now to_port)) (length room.old) }

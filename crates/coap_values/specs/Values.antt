@@ -16,12 +16,12 @@ use Rattle.coap_values.specs.declared.Value.TheVariants as ValueV
 
 -- RULES 7.1: the joined labels, or the host's URI form if the address differs from the destination's
 unfoldable pub host_value : Host Bytes → Bytes → Option Bytes
-host_value (labels ls) toAddress = some (join dot ls)
-host_value (address a) toAddress = cond (same a toAddress) none (some (address_text a))
+host_value (labels ls) to_address = some (join dot ls)
+host_value (address a) to_address = cond (same a to_address) none (some (address_text a))
 
 -- RULES 7.2: a port that differs from the destination's
 unfoldable pub port_value : ℕ → ℕ → Option Bytes
-port_value port toPort = cond (eqb port toPort) none (some (port_bytes port))
+port_value port to_port = cond (eqb port to_port) none (some (port_bytes port))
 
 -- each text after a "."
 abbrev pub dotted : List Bytes → Bytes

@@ -14,7 +14,7 @@ use put::put_byte;
 // Each of the n bytes of src from a position on in decimal, after a ".".
 fn put_further_octets(room: &mut [u8], at: usize, src: &[u8], from: usize, n: usize) -> usize
     requires n_in_bounds { from + n ≤ length src.now }
-    requires n_in_bounds_2 { at + length (further dot decimal (part src.now from n)) ≤ length room.old }
+    requires room_enough { at + length (further dot decimal (part src.now from n)) ≤ length room.old }
     ensures { Wrote room.old at (further dot decimal (part src.now from n)) room.new result }
 {
     let end = from + n;
@@ -32,7 +32,7 @@ fn put_further_octets(room: &mut [u8], at: usize, src: &[u8], from: usize, n: us
 // The IPv4 address in the 4 bytes of src from a position on, in dotted decimal.
 pub fn put_ipv4(room: &mut [u8], at: usize, src: &[u8], from: usize) -> usize
     requires from_in_bounds { from + 4 ≤ length src.now }
-    requires from_in_bounds_2 { at + length (ipv4_text (part src.now from 4)) ≤ length room.old }
+    requires room_enough { at + length (ipv4_text (part src.now from 4)) ≤ length room.old }
     ensures { Wrote room.old at (ipv4_text (part src.now from 4)) room.new result }
 {
     let b = src[from] as u16;

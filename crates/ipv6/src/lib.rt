@@ -148,7 +148,7 @@ fn put_groups(
 fn put_hex_text(room: &mut [u8], at: usize, src: &[u8], from: usize, run: Zeros) -> usize
     requires from_in_bounds { from + 16 ≤ length src.now }
     requires run_value { run ≡ zeros_from 0 (groups (part src.now from 16)) }
-    requires from_in_bounds_2 { at + length (hex_text (part src.now from 16)) ≤ length room.old }
+    requires room_enough { at + length (hex_text (part src.now from 16)) ≤ length room.old }
     ensures { Wrote room.old at (hex_text (part src.now from 16)) room.new result }
 {
     let digits = lower_hex_digits();
@@ -164,7 +164,7 @@ fn put_hex_text(room: &mut [u8], at: usize, src: &[u8], from: usize, run: Zeros)
 // The IPv6 address in the 16 bytes of src from a position on, by RFC 5952: in the mixed form where it is IPv4-mapped, else in hex groups.
 pub fn put_ipv6(room: &mut [u8], at: usize, src: &[u8], from: usize) -> usize
     requires from_in_bounds { from + 16 ≤ length src.now }
-    requires from_in_bounds_2 { at + length (ipv6_text (part src.now from 16)) ≤ length room.old }
+    requires room_enough { at + length (ipv6_text (part src.now from 16)) ≤ length room.old }
     ensures { Wrote room.old at (ipv6_text (part src.now from 16)) room.new result }
 {
     let run = longest_run(src, from);

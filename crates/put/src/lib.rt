@@ -41,7 +41,7 @@ fn put_eight(room: &mut [u8], at: usize, src: &[u8], from: usize) -> usize
 
 // Eight bytes of src or more, eight at a time. Of the last eight some may be written for the second time.
 fn put_blocks(room: &mut [u8], at: usize, src: &[u8], from: usize, n: usize) -> usize
-    requires le_n { (8 ≤ n) × (from + n ≤ length src.now) }
+    requires eight_or_more { (8 ≤ n) × (from + n ≤ length src.now) }
     requires n_in_bounds { at + n ≤ length room.old }
     ensures { Wrote room.old at (part src.now from n) room.new result }
 {
@@ -57,7 +57,7 @@ fn put_blocks(room: &mut [u8], at: usize, src: &[u8], from: usize, n: usize) -> 
 // Bytes of src, one at a time.
 fn put_single(room: &mut [u8], at: usize, src: &[u8], from: usize, n: usize) -> usize
     requires n_in_bounds { from + n ≤ length src.now }
-    requires n_in_bounds_2 { at + n ≤ length room.old }
+    requires room_enough { at + n ≤ length room.old }
     ensures { Wrote room.old at (part src.now from n) room.new result }
 {
     let end = from + n;
@@ -74,7 +74,7 @@ fn put_single(room: &mut [u8], at: usize, src: &[u8], from: usize, n: usize) -> 
 // The n bytes of src from a position on.
 pub fn put_part(room: &mut [u8], at: usize, src: &[u8], from: usize, n: usize) -> usize
     requires n_in_bounds { from + n ≤ length src.now }
-    requires n_in_bounds_2 { at + n ≤ length room.old }
+    requires room_enough { at + n ≤ length room.old }
     ensures { Wrote room.old at (part src.now from n) room.new result }
 {
     if n < 8 {

@@ -88,7 +88,7 @@ fn parts_length(p: Parts) -> usize
 // The result, from the start of the room on.
 fn put_parts(room: &mut [u8], base: &[u8], reference: &[u8], p: Parts) -> usize
     requires parts_small { PartsSmall p × PartsInside base.now reference.now p }
-    requires p_in_bounds { length (parts_of base.now reference.now p) ≤ length room.old }
+    requires room_enough { length (parts_of base.now reference.now p) ≤ length room.old }
     ensures { Wrote room.old 0 (parts_of base.now reference.now p) room.new result }
 {
     let front = p.front;

@@ -7,7 +7,7 @@ ghost use Rattle.rules.specs.Bytes.{Bytes};
 ghost use Rattle.rules.specs.Model.{Scheme, Authority, full, Cri, elements, absolute, normal_path, limits};
 ghost use Rattle.rules.specs.Meaning.{meaning, said_texts, said_text, said_opening};
 ghost use Rattle.rules.specs.Encode.{scheme_item, authority_item};
-ghost use Rattle.rules.specs.Resolve.{or, resolve as resolve·rules};
+ghost use Rattle.rules.specs.Resolve.{or, resolve as rules_resolve};
 ghost use Rattle.rules.specs.Laid.{Between, Headed, Ordered, fragment_start, tail_start, OpeningLaid, PathLaid, TailLaid, Laid};
 ghost use Rattle.reader.specs.Answers.{slot_of, opening_of, found_of};
 ghost use Rattle.resolver_parts.specs.Parts.{no_both, BothIs, front_items, Ends, RowIs, row_texts, Small, kept, PathIs, keeps_query, is_set, takes_query, further_of, TailIs, PartsAre};
@@ -306,8 +306,8 @@ fn count_further(query: bool, fragment: Slot) -> usize
 
 // The base's query where it stays, and the reference's fragment; else the reference's query and fragment.
 fn tail_of(base: &[u8], b: Found, reference: &[u8], r: Found) -> Tail
-    requires tail_laid { TailLaid base.now (slot_of b.query) (slot_of b.fragment) }
-    requires tail_laid_2 { TailLaid reference.now (slot_of r.query) (slot_of r.fragment) }
+    requires base_tail { TailLaid base.now (slot_of b.query) (slot_of b.fragment) }
+    requires reference_tail { TailLaid reference.now (slot_of r.query) (slot_of r.fragment) }
     ensures { TailIs base.now reference.now result (or (said_texts reference.now (slot_of r.query)) (cond (keeps_query (opening_of r.opening) (slot_of r.path)) (said_texts base.now (slot_of b.query)) none)) (said_text reference.now (slot_of r.fragment)) }
 {
     let old = b.query;
@@ -340,8 +340,8 @@ fn tail_of(base: &[u8], b: Found, reference: &[u8], r: Found) -> Tail
 // ---- the whole
 
 fn path_of(base: &[u8], b: Found, reference: &[u8], r: Found) -> Path
-    requires laid { Laid base.now (found_of b) × (length base.now ≤ limits.bytes) }
-    requires laid_2 { Laid reference.now (found_of r) × (length reference.now ≤ limits.bytes) }
+    requires base_laid { Laid base.now (found_of b) × (length base.now ≤ limits.bytes) }
+    requires reference_laid { Laid reference.now (found_of r) × (length reference.now ≤ limits.bytes) }
     ensures { PathIs base.now reference.now result (normal_path (kept (opening_of r.opening) (normal_path (elements (said_texts base.now (slot_of b.path)))) ++ elements (said_texts reference.now (slot_of r.path)))) }
 {
     let old = b.path;
@@ -358,9 +358,9 @@ fn path_of(base: &[u8], b: Found, reference: &[u8], r: Found) -> Path
 
 // The parts of the result.
 pub fn parts_of(base: &[u8], b: Found, reference: &[u8], r: Found) -> Parts
-    requires laid { Laid base.now (found_of b) × (length base.now ≤ limits.bytes) }
-    requires laid_2 { Laid reference.now (found_of r) × (length reference.now ≤ limits.bytes) }
-    ensures { (c : Cri) → absolute (meaning base.now (found_of b)) ≡ some c → PartsAre base.now reference.now result (resolve·rules c (meaning reference.now (found_of r))) }
+    requires base_laid { Laid base.now (found_of b) × (length base.now ≤ limits.bytes) }
+    requires reference_laid { Laid reference.now (found_of r) × (length reference.now ≤ limits.bytes) }
+    ensures { (c : Cri) → absolute (meaning base.now (found_of b)) ≡ some c → PartsAre base.now reference.now result (rules_resolve c (meaning reference.now (found_of r))) }
 {
     let old = b.opening;
     let opening = r.opening;

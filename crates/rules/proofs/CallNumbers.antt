@@ -164,20 +164,20 @@ text_answers lim bs = record { told = go (read_reference lim bs) refl; only = on
 
 -- ---- options
 
-pub options_answers : (lim : Limits) (bs toAddress : Bytes) (toPort : ℕ)
-    → Decides (OptionsAnswers lim bs toAddress toPort) (options_call lim bs toAddress toPort)
+pub options_answers : (lim : Limits) (bs to_address : Bytes) (to_port : ℕ)
+    → Decides (OptionsAnswers lim bs to_address to_port) (options_call lim bs to_address to_port)
 unfolding options_call read_absolute given ◌>>=◌ ◌>>◌ need
-options_answers lim bs toAddress toPort = record { told = go (address_size (length toAddress)) refl; only = only }
+options_answers lim bs to_address to_port = record { told = go (address_size (length to_address)) refl; only = only }
   where
     Answer : Type 0
-    Answer = OptionsAnswers lim bs toAddress toPort (options_call lim bs toAddress toPort)
+    Answer = OptionsAnswers lim bs to_address to_port (options_call lim bs to_address to_port)
 
-    go : (t : Bool) → address_size (length toAddress) ≡ t → Answer
-    go false i = rw i (options_12 (λ a. true≢false (sym (size_yes (length toAddress) a) ∙ i)))
+    go : (t : Bool) → address_size (length to_address) ≡ t → Answer
+    go false i = rw i (options_12 (λ a. true≢false (sym (size_yes (length to_address) a) ∙ i)))
     go true i = reads (read_reference lim bs) refl
       where
-        at : IsAddress toAddress
-        at = size_is (length toAddress) i
+        at : IsAddress to_address
+        at = size_is (length to_address) i
 
         reads : (x : Res Reference) → read_reference lim bs ≡ x → Answer
         reads (refused n k) e = rw (i, e) (options_own at (own_reference lim bs n k e) e)
@@ -195,13 +195,13 @@ options_answers lim bs toAddress toPort = record { told = go (address_size (leng
                     fragment none f = rw (i, e, a, s, ap absent f) (options_done {c = c} at (rw (e, a)) s f)
                     fragment (some t) f = rw (i, e, a, s, ap absent f) (options_11_fragment {c = c} at (rw (e, a)) s f)
 
-    only : (u : Res Bytes) → OptionsAnswers lim bs toAddress toPort u → options_call lim bs toAddress toPort ≡ u
-    only _ (options_12 h) = rw (size_no (length toAddress) h)
-    only _ (options_own h o e) = rw (size_yes (length toAddress) h, e)
-    only _ (options_8 h e a) = rw (size_yes (length toAddress) h, e, a)
-    only _ (options_11_scheme h e s) = rw (size_yes (length toAddress) h, e, s)
-    only _ (options_11_fragment h e s f) = rw (size_yes (length toAddress) h, e, s, ap absent f)
-    only _ (options_done h e s f) = rw (size_yes (length toAddress) h, e, s, ap absent f)
+    only : (u : Res Bytes) → OptionsAnswers lim bs to_address to_port u → options_call lim bs to_address to_port ≡ u
+    only _ (options_12 h) = rw (size_no (length to_address) h)
+    only _ (options_own h o e) = rw (size_yes (length to_address) h, e)
+    only _ (options_8 h e a) = rw (size_yes (length to_address) h, e, a)
+    only _ (options_11_scheme h e s) = rw (size_yes (length to_address) h, e, s)
+    only _ (options_11_fragment h e s f) = rw (size_yes (length to_address) h, e, s, ap absent f)
+    only _ (options_done h e s f) = rw (size_yes (length to_address) h, e, s, ap absent f)
 
 -- ---- writing
 

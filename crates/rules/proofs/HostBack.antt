@@ -59,11 +59,11 @@ abbrev value_in : List CoapOption → Bytes
 value_in [] = []
 value_in (o ∷ os) = o.value
 
-value_of_lem : (h : Host Bytes) (toAddress v : Bytes) → uri_host h toAddress ≡ option 3 v ∷ [] → host_value h ≡ v
+value_of_lem : (h : Host Bytes) (to_address v : Bytes) → uri_host h to_address ≡ option 3 v ∷ [] → host_value h ≡ v
 unfolding uri_host
-value_of_lem (labels ls) toAddress v e = ap value_in e
-value_of_lem (address a) toAddress v e =
-    by_test (λ t. cond t [] (option 3 (address_text a) ∷ []) ≡ option 3 v ∷ [] → address_text a ≡ v) (same a toAddress)
+value_of_lem (labels ls) to_address v e = ap value_in e
+value_of_lem (address a) to_address v e =
+    by_test (λ t. cond t [] (option 3 (address_text a) ∷ []) ≡ option 3 v ∷ [] → address_text a ≡ v) (same a to_address)
     (λ _ e. absurd (no_option v e)) (λ _ e. ap value_in e) e
   where
     no_option : (v : Bytes) → ◌≡◌ {A = List CoapOption} [] (option 3 v ∷ []) → ⊥
@@ -73,7 +73,7 @@ value_of_lem (address a) toAddress v e =
         is_none [] = false
         is_none (o ∷ os) = true
 
-pub host_determined : (h k : Host Bytes) (toAddress v : Bytes) → GoodHost h → GoodHost k → uri_host h toAddress ≡ option 3 v ∷ []
-    → uri_host k toAddress ≡ option 3 v ∷ [] → h ≡ k
-host_determined h k toAddress v g f d e =
-    sym (value_back h g) ∙ ap un_value (value_of_lem h toAddress v d ∙ sym (value_of_lem k toAddress v e)) ∙ value_back k f
+pub host_determined : (h k : Host Bytes) (to_address v : Bytes) → GoodHost h → GoodHost k → uri_host h to_address ≡ option 3 v ∷ []
+    → uri_host k to_address ≡ option 3 v ∷ [] → h ≡ k
+host_determined h k to_address v g f d e =
+    sym (value_back h g) ∙ ap un_value (value_of_lem h to_address v d ∙ sym (value_of_lem k to_address v e)) ∙ value_back k f

@@ -295,14 +295,14 @@ row_of n [] h = tt
 row_of n (t ∷ ts) h = ((refl, h.0), row_of n ts h.1)
 
 -- 7.1, 7.2
-host_row : (h : Host Bytes) (toAddress : Bytes) → GoodHost h → OptionRow 3 (uri_host h toAddress)
+host_row : (h : Host Bytes) (to_address : Bytes) → GoodHost h → OptionRow 3 (uri_host h to_address)
 unfolding uri_host
-host_row (labels ls) toAddress g = ((refl, labels_short ls g.texts.each g.name), tt)
-host_row (address a) toAddress g = cond_split (OptionRow 3) (same a toAddress) (λ e. tt) (λ e. ((refl, address_short a g), tt))
+host_row (labels ls) to_address g = ((refl, labels_short ls g.texts.each g.name), tt)
+host_row (address a) to_address g = cond_split (OptionRow 3) (same a to_address) (λ e. tt) (λ e. ((refl, address_short a g), tt))
 
-port_row : (p toPort : ℕ) → p ≤ 65535 → OptionRow 7 (uri_port p toPort)
+port_row : (p to_port : ℕ) → p ≤ 65535 → OptionRow 7 (uri_port p to_port)
 unfolding uri_port
-port_row p toPort h = cond_split (OptionRow 7) (eqb p toPort) (λ e. tt) (λ e. ((refl, record { size = omega (arith, port_two p); octets = port_octets p h }), tt))
+port_row p to_port h = cond_split (OptionRow 7) (eqb p to_port) (λ e. tt) (λ e. ((refl, record { size = omega (arith, port_two p); octets = port_octets p h }), tt))
 
 query_short : (q : Option (List Bytes)) → If (GoodTexts parameter 1 16) q → Each ShortValue (elements q)
 query_short none g = tt
@@ -361,15 +361,15 @@ four_rows H P S Q h p s q =
     })
 
 -- their numbers never fall and are at most 15, their values have at most 255 bytes
-pub cri_options : (c : Cri) (e : SchemeEntry) (toAddress : Bytes) (toPort : ℕ) → GoodCri c → coap_scheme c.scheme ≡ some e
-    → UriOptions (options c e toAddress toPort)
+pub cri_options : (c : Cri) (e : SchemeEntry) (to_address : Bytes) (to_port : ℕ) → GoodCri c → coap_scheme c.scheme ≡ some e
+    → UriOptions (options c e to_address to_port)
 unfolding options
-cri_options c e toAddress toPort g s =
+cri_options c e to_address to_port g s =
     let p : ℕ = get_or c.authority.port e.port in
     let most : p ≤ 65535 = port_most c.authority.port e.port g.authority.port (default_port_lem c.scheme e s) in
     let segments : Each ShortValue c.path = each_map (good_short segment (omega arith)) c.path g.path in
-    four_rows (uri_host c.authority.host toAddress) (uri_port p toPort) (map (option 11) (normal_path c.path)) (map (option 15) (elements c.query))
-    (host_row c.authority.host toAddress g.authority.host) (port_row p toPort most) (row_of 11 (normal_path c.path) (normal_each ShortValue c.path segments))
+    four_rows (uri_host c.authority.host to_address) (uri_port p to_port) (map (option 11) (normal_path c.path)) (map (option 15) (elements c.query))
+    (host_row c.authority.host to_address g.authority.host) (port_row p to_port most) (row_of 11 (normal_path c.path) (normal_each ShortValue c.path segments))
     (row_of 15 (elements c.query) (query_short c.query g.query))
 
 -- so they can be coded
@@ -394,14 +394,14 @@ unfolding read_options
 options_read os k = options_back (length (options_from 0 os)) 0 os k.rising k.each (omega arith)
 
 -- what the call writes is read as the options of what it read
-pub requested_read : (lim : Limits) (bs toAddress : Bytes) (toPort : ℕ) → Octets bs
-    → Ok (Requested lim bs toAddress toPort) (options_call lim bs toAddress toPort)
+pub requested_read : (lim : Limits) (bs to_address : Bytes) (to_port : ℕ) → Octets bs
+    → Ok (Requested lim bs to_address to_port) (options_call lim bs to_address to_port)
 unfolding options_call
-requested_read lim bs toAddress toPort h =
+requested_read lim bs to_address to_port h =
     ok_need _ DEST 0 _ (λ z. ok_bind (read_absolute lim bs) _ (ok_self (read_absolute lim bs))
     (λ c r. ok_bind {P = λ e. coap_scheme c.scheme ≡ some e} _ _ (ok_given (coap_scheme c.scheme) COAP 0 (λ e s. s))
     (λ e s. ok_need _ COAP 0 _ (λ a.
-    let k : Codable (options c e toAddress toPort) = codable _ (cri_options c e toAddress toPort (good_read lim bs c h r) s) in
+    let k : Codable (options c e to_address to_port) = codable _ (cri_options c e to_address to_port (good_read lim bs c h r) s) in
     ok! (record {
       cri = c;
       entry = e;

@@ -51,20 +51,20 @@ join_texts d (t ∷ []) = simp length-append (omega (arith, text_length t))
 join_texts d (t ∷ u ∷ ts) =
     rw (length-append t (d ∷ join d (u ∷ ts)), length-append (text_item t) (texts (u ∷ ts))) (omega (arith, text_length t, join_texts d (u ∷ ts)))
 
-host_options : (h : Host Bytes) (toAddress : Bytes) → GoodHost h → length (options_from 0 (uri_host h toAddress)) ≤ 2 * length (concat (host_items h)) + 19
+host_options : (h : Host Bytes) (to_address : Bytes) → GoodHost h → length (options_from 0 (uri_host h to_address)) ≤ 2 * length (concat (host_items h)) + 19
 unfolding uri_host host_items
-host_options (labels ls) toAddress g =
+host_options (labels ls) to_address g =
     let v : Bytes = join dot ls in
     omega (arith, optional_length false 0 3 v, extension_few 3, extension_few (length v), join_texts dot ls)
-host_options (address a) toAddress g =
+host_options (address a) to_address g =
     let v : Bytes = address_text a in
-    omega (arith, optional_length (same a toAddress) 0 3 v, extension_few 3, extension_few (length v), address_length a g, address_most a g, bytes_length a)
+    omega (arith, optional_length (same a to_address) 0 3 v, extension_few 3, extension_few (length v), address_length a g, address_most a g, bytes_length a)
 
-port_options : (before p toPort : ℕ) → length (options_from before (uri_port p toPort)) ≤ 3
+port_options : (before p to_port : ℕ) → length (options_from before (uri_port p to_port)) ≤ 3
 unfolding uri_port
-port_options before p toPort =
+port_options before p to_port =
     let v : Bytes = port_bytes p in
-    omega (arith, optional_length (eqb p toPort) before 7 v, extension_few (7 - before), extension_few (length v), port_two p)
+    omega (arith, optional_length (eqb p to_port) before 7 v, extension_few (7 - before), extension_few (length v), port_two p)
 
 -- ---- path and query
 
@@ -105,20 +105,20 @@ unfolding scheme_item
 scheme_some (number n) = head_some Negative n
 scheme_some (name t) = omega (arith, text_length t)
 
-pub cri_options_bound : (c : Cri) (p : Option (List Bytes)) (s : SchemeEntry) (toAddress : Bytes) (toPort : ℕ) → elements p ≡ c.path → GoodCri c
-    → length (options_from 0 (options c s toAddress toPort)) ≤ 2 * length (encode (with_path c p)) + 16
+pub cri_options_bound : (c : Cri) (p : Option (List Bytes)) (s : SchemeEntry) (to_address : Bytes) (to_port : ℕ) → elements p ≡ c.path → GoodCri c
+    → length (options_from 0 (options c s to_address to_port)) ≤ 2 * length (encode (with_path c p)) + 16
 unfolding options
-cri_options_bound c p s toAddress toPort e g =
+cri_options_bound c p s to_address to_port e g =
     let port : ℕ = get_or c.authority.port s.port in
-    let H : List CoapOption = uri_host c.authority.host toAddress in
-    let P : List CoapOption = uri_port port toPort in
+    let H : List CoapOption = uri_host c.authority.host to_address in
+    let P : List CoapOption = uri_port port to_port in
     let S : List CoapOption = map (option 11) (normal_path (elements p)) in
     let Q : List CoapOption = map (option 15) (elements c.query) in
     rw (← e) (rw (options_append 0 (H ++ P ++ S) Q, options_append 0 (H ++ P) S, options_append 0 H P) (simp length-append
-    (omega (arith, encode_items c p, scheme_some c.scheme, host_options c.authority.host toAddress g.authority.host, port_options (last_number 0 H) port toPort, path_options (last_number 0 (H ++ P)) p, query_options (last_number 0 (H ++ P ++ S)) c.query))))
+    (omega (arith, encode_items c p, scheme_some c.scheme, host_options c.authority.host to_address g.authority.host, port_options (last_number 0 H) port to_port, path_options (last_number 0 (H ++ P)) p, query_options (last_number 0 (H ++ P ++ S)) c.query))))
 
-pub read_options_bound : (lim : Limits) (bs : Bytes) (c : Cri) (s : SchemeEntry) (toAddress : Bytes) (toPort : ℕ) → Octets bs → read_absolute lim bs ≡ ok c
-    → length (options_from 0 (options c s toAddress toPort)) ≤ 2 * length bs + 16
-read_options_bound lim bs c s toAddress toPort h e =
+pub read_options_bound : (lim : Limits) (bs : Bytes) (c : Cri) (s : SchemeEntry) (to_address : Bytes) (to_port : ℕ) → Octets bs → read_absolute lim bs ≡ ok c
+    → length (options_from 0 (options c s to_address to_port)) ≤ 2 * length bs + 16
+read_options_bound lim bs c s to_address to_port h e =
     let r : EncodedAs bs c = encoded_as lim bs c h e in
-    rw r.bytes at (cri_options_bound c r.path s toAddress toPort r.is (good_read lim bs c h e))
+    rw r.bytes at (cri_options_bound c r.path s to_address to_port r.is (good_read lim bs c h e))

@@ -184,17 +184,17 @@ options_exact_proved bs os h = (
 )
 
 pub options_read_proved : P.OptionsRead
-options_read_proved lim bs toAddress toPort w h e = ok_at (requested_read lim bs toAddress toPort h) e
+options_read_proved lim bs to_address to_port w h e = ok_at (requested_read lim bs to_address to_port h) e
 
 pub host_determined_proved : P.HostDetermined
 host_determined_proved = host_determined
 
 pub options_bound_proved : P.OptionsBound
-options_bound_proved lim bs toAddress toPort w h e =
-    let q : P.Requested lim bs toAddress toPort w = options_read_proved lim bs toAddress toPort w h e in
-    let coded : options_from 0 (options q.cri q.entry toAddress toPort) ≡ w = ((options_exact_proved w _ q.octets).0 q.back).0 in
-    let l : length w ≤ 2 * length bs + 16 = rw coded at (read_options_bound lim bs q.cri q.entry toAddress toPort h q.read) in
-    (l, λ n k. enough (options_call lim bs toAddress toPort) w n e (omega arith))
+options_bound_proved lim bs to_address to_port w h e =
+    let q : P.Requested lim bs to_address to_port w = options_read_proved lim bs to_address to_port w h e in
+    let coded : options_from 0 (options q.cri q.entry to_address to_port) ≡ w = ((options_exact_proved w _ q.octets).0 q.back).0 in
+    let l : length w ≤ 2 * length bs + 16 = rw coded at (read_options_bound lim bs q.cri q.entry to_address to_port h q.read) in
+    (l, λ n k. enough (options_call lim bs to_address to_port) w n e (omega arith))
 
 -- ---- worked examples
 

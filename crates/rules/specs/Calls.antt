@@ -67,12 +67,12 @@ absent (some a) = false
 
 -- 3.5: 12, then 1 to 7, then 8 if not absolute, then 11
 unfoldable pub options_call : Limits → Bytes → Bytes → ℕ → Res Bytes
-options_call lim bs toAddress toPort = do
-  need (address_size (length toAddress)) DEST 0
+options_call lim bs to_address to_port = do
+  need (address_size (length to_address)) DEST 0
   c ← read_absolute lim bs
   s ← given (coap_scheme c.scheme) COAP 0
   need (absent c.fragment) COAP 0
-  ok (options_from 0 (options c s toAddress toPort))
+  ok (options_from 0 (options c s to_address to_port))
 
 -- 9.2: 4; 9.3: then the number that the reader has for the encoding
 unfoldable pub write_call : Limits → Components → Bytes → Res Bytes

@@ -17,8 +17,8 @@ option n v = record { number = n; value = v }
 
 -- 7.1 Uri-Host (3): the joined labels, or the host's URI form if the address differs from the destination's
 unfoldable pub uri_host : Host Bytes → Bytes → List CoapOption
-uri_host (labels ls) toAddress = option 3 (join dot ls) ∷ []
-uri_host (address a) toAddress = cond (same a toAddress) [] (option 3 (address_text a) ∷ [])
+uri_host (labels ls) to_address = option 3 (join dot ls) ∷ []
+uri_host (address a) to_address = cond (same a to_address) [] (option 3 (address_text a) ∷ [])
 
 -- 7.2: big-endian without leading zero bytes, so port 0 has no bytes
 unfoldable pub port_bytes : ℕ → Bytes
@@ -26,13 +26,13 @@ port_bytes p = cond (eqb p 0) [] (cond (ltb p 256) (p ∷ []) (p / 256 ∷ p % 2
 
 -- 7.2 Uri-Port (7): if the CRI's port, or else the scheme's default, differs from the destination's
 unfoldable pub uri_port : ℕ → ℕ → List CoapOption
-uri_port port toPort = cond (eqb port toPort) [] (option 7 (port_bytes port) ∷ [])
+uri_port port to_port = cond (eqb port to_port) [] (option 7 (port_bytes port) ∷ [])
 
 -- 7.3, 7.4: Uri-Path (11) for each segment, none for a path of one empty segment; Uri-Query (15) for each parameter
 unfoldable pub options : Cri → SchemeEntry → Bytes → ℕ → List CoapOption
-options c s toAddress toPort =
-    uri_host c.authority.host toAddress
-    ++ uri_port (get_or c.authority.port s.port) toPort
+options c s to_address to_port =
+    uri_host c.authority.host to_address
+    ++ uri_port (get_or c.authority.port s.port) to_port
     ++ map (option 11) (normal_path c.path)
     ++ map (option 15) (elements c.query)
 

@@ -121,17 +121,17 @@ abbrev pub IsAddress : Bytes → Type 0
 IsAddress a = (length a ≡ 4) ⊎ (length a ≡ 16)
 
 -- RULES 3.5: 12, then 1 to 7 at the reader's place, then 8 if the reference is not absolute, then 11
-pub data OptionsAnswers (lim : Limits) (bs toAddress : Bytes) (toPort : ℕ) : Res Bytes → Type 0 where
-  options_12 : (IsAddress toAddress → ⊥) → OptionsAnswers lim bs toAddress toPort (refused 12 0)
-  options_own : {n k : ℕ} → IsAddress toAddress → Own n → read_reference lim bs ≡ refused n k → OptionsAnswers lim bs toAddress toPort (refused n k)
-  options_8 : {r : Reference} → IsAddress toAddress → read_reference lim bs ≡ ok r → absolute r ≡ none
-      → OptionsAnswers lim bs toAddress toPort (refused 8 0)
-  options_11_scheme : {c : Cri} → IsAddress toAddress → read_absolute lim bs ≡ ok c → coap_scheme c.scheme ≡ none
-      → OptionsAnswers lim bs toAddress toPort (refused 11 0)
-  options_11_fragment : {c : Cri} {e : SchemeEntry} {t : Bytes} → IsAddress toAddress → read_absolute lim bs ≡ ok c → coap_scheme c.scheme ≡ some e
-      → c.fragment ≡ some t → OptionsAnswers lim bs toAddress toPort (refused 11 0)
-  options_done : {c : Cri} {e : SchemeEntry} → IsAddress toAddress → read_absolute lim bs ≡ ok c → coap_scheme c.scheme ≡ some e → c.fragment ≡ none
-      → OptionsAnswers lim bs toAddress toPort (ok (options_from 0 (options c e toAddress toPort)))
+pub data OptionsAnswers (lim : Limits) (bs to_address : Bytes) (to_port : ℕ) : Res Bytes → Type 0 where
+  options_12 : (IsAddress to_address → ⊥) → OptionsAnswers lim bs to_address to_port (refused 12 0)
+  options_own : {n k : ℕ} → IsAddress to_address → Own n → read_reference lim bs ≡ refused n k → OptionsAnswers lim bs to_address to_port (refused n k)
+  options_8 : {r : Reference} → IsAddress to_address → read_reference lim bs ≡ ok r → absolute r ≡ none
+      → OptionsAnswers lim bs to_address to_port (refused 8 0)
+  options_11_scheme : {c : Cri} → IsAddress to_address → read_absolute lim bs ≡ ok c → coap_scheme c.scheme ≡ none
+      → OptionsAnswers lim bs to_address to_port (refused 11 0)
+  options_11_fragment : {c : Cri} {e : SchemeEntry} {t : Bytes} → IsAddress to_address → read_absolute lim bs ≡ ok c → coap_scheme c.scheme ≡ some e
+      → c.fragment ≡ some t → OptionsAnswers lim bs to_address to_port (refused 11 0)
+  options_done : {c : Cri} {e : SchemeEntry} → IsAddress to_address → read_absolute lim bs ≡ ok c → coap_scheme c.scheme ≡ some e → c.fragment ≡ none
+      → OptionsAnswers lim bs to_address to_port (ok (options_from 0 (options c e to_address to_port)))
 
 -- RULES 9.2, 9.3: 4, then the reader's 1 to 7 for the encoding, which is no input and so has no place
 pub data WriteAnswers (lim : Limits) (c : Components) (lent : Bytes) : Res Bytes → Type 0 where
@@ -176,8 +176,8 @@ pub record CallNumbers : Type 0 where
   pub reading : (lim : Limits) (bs : Bytes) → Decides (ReadAnswers lim bs) (read_call lim bs)
   pub resolving : (lim : Limits) (base ref : Bytes) → Decides (ResolveAnswers lim base ref) (resolve_call lim base ref)
   pub printing : (lim : Limits) (bs : Bytes) → Decides (TextAnswers lim bs) (text_call lim bs)
-  pub requesting : (lim : Limits) (bs toAddress : Bytes) (toPort : ℕ)
-      → Decides (OptionsAnswers lim bs toAddress toPort) (options_call lim bs toAddress toPort)
+  pub requesting : (lim : Limits) (bs to_address : Bytes) (to_port : ℕ)
+      → Decides (OptionsAnswers lim bs to_address to_port) (options_call lim bs to_address to_port)
   pub writing : (lim : Limits) (c : Components) (lent : Bytes) → Decides (WriteAnswers lim c lent) (write_call lim c lent)
   pub segments : (lim : Limits) (bs : Bytes) (n : ℕ)
       → Shows (SegmentAnswers lim bs n) (verdict (segment_view lim bs n)) (segment_shown (segment_view lim bs n))
@@ -297,33 +297,33 @@ OptionsExact = (bs : Bytes) (os : List CoapOption) → Octets bs → (read_optio
 
 -- what the options call writes is read as the options of the absolute CRI that its input says, which has one of the six schemes and
 -- no fragment
-pub record Requested (lim : Limits) (bs toAddress : Bytes) (toPort : ℕ) (w : Bytes) : Type 0 where
+pub record Requested (lim : Limits) (bs to_address : Bytes) (to_port : ℕ) (w : Bytes) : Type 0 where
   pub cri : Cri
   pub entry : SchemeEntry
   pub read : read_absolute lim bs ≡ ok cri
   pub scheme : coap_scheme cri.scheme ≡ some entry
   pub fragment : cri.fragment ≡ none
   pub octets : Octets w
-  pub back : read_options w ≡ some (options cri entry toAddress toPort)
+  pub back : read_options w ≡ some (options cri entry to_address to_port)
 
 -- for any limits and any destination
 abbrev pub OptionsRead : Type 0
 OptionsRead =
-    (lim : Limits) (bs toAddress : Bytes) (toPort : ℕ) (w : Bytes) → Octets bs → options_call lim bs toAddress toPort ≡ ok w
-    → Requested lim bs toAddress toPort w
+    (lim : Limits) (bs to_address : Bytes) (to_port : ℕ) (w : Bytes) → Octets bs → options_call lim bs to_address to_port ≡ ok w
+    → Requested lim bs to_address to_port w
 
 -- the reason for the amended rule on labels: two hosts with the same Uri-Host, neither being the destination's address, which has none, are the same host
 abbrev pub HostDetermined : Type 0
 HostDetermined =
-    (h k : Host Bytes) (toAddress value : Bytes) → GoodHost h → GoodHost k → uri_host h toAddress ≡ option 3 value ∷ [] → uri_host k toAddress ≡ option 3 value ∷ []
+    (h k : Host Bytes) (to_address value : Bytes) → GoodHost h → GoodHost k → uri_host h to_address ≡ option 3 value ∷ [] → uri_host k to_address ≡ option 3 value ∷ []
     → h ≡ k
 
 -- for an n-byte encoding the options are never longer than 2n + 16 bytes, so a room of that length is enough
 abbrev pub OptionsBound : Type 0
 OptionsBound =
-    (lim : Limits) (bs toAddress : Bytes) (toPort : ℕ) (w : Bytes) → Octets bs → options_call lim bs toAddress toPort ≡ ok w
+    (lim : Limits) (bs to_address : Bytes) (to_port : ℕ) (w : Bytes) → Octets bs → options_call lim bs to_address to_port ≡ ok w
     → (length w ≤ 2 * length bs + 16)
-    × ((n : ℕ) → 2 * length bs + 16 ≤ n → outcome (options_call lim bs toAddress toPort) n ≡ ok (length w))
+    × ((n : ℕ) → 2 * length bs + 16 ≤ n → outcome (options_call lim bs to_address to_port) n ≡ ok (length w))
 
 -- ---- worked examples, by computing
 

@@ -28,7 +28,7 @@ use uri_parts::{
 // How long scheme, "://", host and port are.
 fn origin_length(s: &[u8], opening: OpeningAt, table: &[u8; 256]) -> usize
     requires table { Table table.now }
-    requires s_len_bound { length s.now ≤ limits.bytes }
+    requires link_size { length s.now ≤ limits.bytes }
     requires opening_prints { OpeningPrints s.now (opening_of opening) }
     requires short { Short (origin_piece (said_opening s.now (opening_of opening))) }
     ensures { result ≡ length (origin_piece (said_opening s.now (opening_of opening))) }

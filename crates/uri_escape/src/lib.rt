@@ -102,7 +102,7 @@ fn put_escaped_byte(
     b: u8,
 ) -> usize
     requires table { Table table.now × Digits hex_digit digits.now }
-    requires b_in_bounds { at + length (escape_byte (class_is class) b) ≤ length room.old }
+    requires room_enough { at + length (escape_byte (class_is class) b) ≤ length room.old }
     ensures { Wrote room.old at (escape_byte (class_is class) b) room.new result }
 {
     if is_bare(class, table, b) {
@@ -154,7 +154,7 @@ fn put_by_bytes(
 ) -> usize
     requires table { Table table.now × Digits hex_digit digits.now }
     requires n_in_bounds { from + n ≤ length src.now }
-    requires n_in_bounds_2 { at + length (escape (class_is class) (part src.now from n)) ≤ length room.old }
+    requires room_enough { at + length (escape (class_is class) (part src.now from n)) ≤ length room.old }
     ensures { Wrote room.old at (escape (class_is class) (part src.now from n)) room.new result }
 {
     let end = from + n;
@@ -195,7 +195,7 @@ fn common_of_eight(src: &[u8], at: usize, table: &[u8; 256]) -> u8
 // Whether all of eight bytes or more stand bare, eight at a time. Of the last eight some may be tested for the second time.
 fn stand_bare(src: &[u8], from: usize, n: usize, class: Class, table: &[u8; 256]) -> bool
     requires table { Table table.now }
-    requires le_n { (8 ≤ n) × (from + n ≤ length src.now) }
+    requires eight_or_more { (8 ≤ n) × (from + n ≤ length src.now) }
     ensures { result ≡ all (bare (class_is class)) (part src.now from n) }
 {
     let last = n - 8;
@@ -238,7 +238,7 @@ pub fn put_long(
 ) -> usize
     requires table { Table table.now × Digits hex_digit digits.now }
     requires n_in_bounds { from + n ≤ length src.now }
-    requires n_in_bounds_2 { at + length (escape (class_is class) (part src.now from n)) ≤ length room.old }
+    requires room_enough { at + length (escape (class_is class) (part src.now from n)) ≤ length room.old }
     ensures { Wrote room.old at (escape (class_is class) (part src.now from n)) room.new result }
 {
     if 8 <= n {
@@ -279,7 +279,7 @@ pub fn put_escaped(
 ) -> usize
     requires table { Table table.now × Digits hex_digit digits.now }
     requires n_in_bounds { from + n ≤ length src.now }
-    requires n_in_bounds_2 { at + length (escape (class_is class) (part src.now from n)) ≤ length room.old }
+    requires room_enough { at + length (escape (class_is class) (part src.now from n)) ≤ length room.old }
     ensures { Wrote room.old at (escape (class_is class) (part src.now from n)) room.new result }
 {
     if n < LONG {

@@ -54,7 +54,7 @@ pub fn put_scheme(room: &mut [u8], at: usize, s: &[u8], scheme: SchemeAt) -> usi
 // How long a "/" and a host are.
 pub fn host_length(s: &[u8], host: HostAt, table: &[u8; 256]) -> usize
     requires table { Table table.now }
-    requires s_len_bound { length s.now ≤ limits.bytes }
+    requires link_size { length s.now ≤ limits.bytes }
     requires host_prints { HostPrints s.now (host_of host) }
     requires short { Short (host_piece (said_host s.now (host_of host))) }
     ensures { result ≡ length (host_piece (said_host s.now (host_of host))) }
@@ -129,7 +129,7 @@ pub fn put_port(room: &mut [u8], at: usize, port: Port) -> usize
 // How long a "/" and a path are.
 pub fn path_length(s: &[u8], path: Slot, table: &[u8; 256]) -> usize
     requires table { Table table.now }
-    requires s_len_bound { length s.now ≤ limits.bytes }
+    requires link_size { length s.now ≤ limits.bytes }
     requires texts_print { TextsPrint s.now (slot_of path) }
     ensures { result ≡ length (path_piece (said_texts s.now (slot_of path))) }
 {
@@ -165,7 +165,7 @@ pub fn put_path(room: &mut [u8], at: usize, s: &[u8], path: Slot, table: &[u8; 2
 // How long a "?" and a query are, if one is set.
 pub fn query_length(s: &[u8], query: Slot, table: &[u8; 256]) -> usize
     requires table { Table table.now }
-    requires s_len_bound { length s.now ≤ limits.bytes }
+    requires link_size { length s.now ≤ limits.bytes }
     requires texts_print { TextsPrint s.now (slot_of query) }
     ensures { result ≡ length (query_piece (said_texts s.now (slot_of query))) }
 {
@@ -201,7 +201,7 @@ pub fn put_query(room: &mut [u8], at: usize, s: &[u8], query: Slot, table: &[u8;
 // How long a "#" and a fragment are, if one is set.
 pub fn fragment_length(s: &[u8], fragment: Slot, table: &[u8; 256]) -> usize
     requires table { Table table.now }
-    requires s_len_bound { length s.now ≤ limits.bytes }
+    requires link_size { length s.now ≤ limits.bytes }
     requires text_stands { TextStands s.now (slot_of fragment) }
     requires short { Short (fragment_piece (said_text s.now (slot_of fragment))) }
     ensures { result ≡ length (fragment_piece (said_text s.now (slot_of fragment))) }

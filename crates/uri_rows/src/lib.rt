@@ -19,7 +19,7 @@ use uri_escape::{Class, escaped_length, put_escaped, upper_hex_digits};
 fn marked_length(s: &[u8], at: usize, count: usize, class: Class, table: &[u8; 256]) -> usize
     requires table { Table table.now }
     requires row_at { RowAt s.now at count }
-    requires s_len_bound { length s.now ≤ limits.bytes }
+    requires link_size { length s.now ≤ limits.bytes }
     ensures { (first further : ℕ) → result ≡ length (marked_each (class_is class) first further (contents s.now at count)) }
 {
     let mut next = at;
@@ -71,7 +71,7 @@ fn put_marked(
 pub fn row_length(s: &[u8], at: usize, count: usize, class: Class, table: &[u8; 256]) -> usize
     requires table { Table table.now }
     requires row_at { RowAt s.now at count }
-    requires s_len_bound { length s.now ≤ limits.bytes }
+    requires link_size { length s.now ≤ limits.bytes }
     ensures { (mark delimiter : ℕ) → result ≡ length (mark ∷ join delimiter (map (escape (class_is class)) (contents s.now at count))) }
 {
     if count == 0 {

@@ -318,7 +318,7 @@ fn add_further(
     further: u64,
 ) -> usize
     requires further_value { further ≡ length (tail_of (said_by lent.now spans.now c)) }
-    requires c_value { counted limits (components_of spans.now c) ≡ true }
+    requires few { counted limits (components_of spans.now c) ≡ true }
     ensures { Added out.old at (TailMay lent.now (components_of spans.now c)) (concat (tail_of (said_by lent.now spans.now c))) out.new result }
 {
     let opening = c.opening;

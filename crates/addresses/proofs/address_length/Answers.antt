@@ -14,7 +14,7 @@ returns-then-n-eq4 c = c.ipv4_length.ensures ∙ ap length (ipv4_text_lem _ _ _ 
 pub overflow_add-result : goal.overflow_add-result
 overflow_add-result c =
     let bs = c.args.s.now in
-    omega (arith, c.requires.n_len_bound, c.ipv6_length.ensures, ap length (ipv6_text_lem bs c.args.from c.args.n c.if-n-eq4.false c.requires.address_at), length-append (ipv6_text (part bs c.args.from 16)) (right_bracket ∷ []))
+    omega (arith, c.requires.text_fits, c.ipv6_length.ensures, ap length (ipv6_text_lem bs c.args.from c.args.n c.if-n-eq4.false c.requires.address_at), length-append (ipv6_text (part bs c.args.from 16)) (right_bracket ∷ []))
 
 pub returns : goal.returns
 returns c =

@@ -19,7 +19,7 @@ whole s k =
 
 pub put_ipv4-requires : goal.put_ipv4-requires
 put_ipv4-requires c =
-    record { from_in_bounds = omega (arith, c.requires.address_at.0, c.if-n-eq4.true); from_in_bounds_2 = omega (arith, c.requires.n_in_bounds, ap length (ipv4_text_lem c.args.s.now c.args.from c.args.n c.if-n-eq4.true c.requires.address_at.0)) }
+    record { from_in_bounds = omega (arith, c.requires.address_at.0, c.if-n-eq4.true); room_enough = omega (arith, c.requires.n_in_bounds, ap length (ipv4_text_lem c.args.s.now c.args.from c.args.n c.if-n-eq4.true c.requires.address_at.0)) }
 
 pub returns-then-n-eq4 : goal.returns-then-n-eq4
 returns-then-n-eq4 c = wrote_as (ipv4_text_lem _ _ _ c.if-n-eq4.true c.requires.address_at.0) c.put_ipv4.ensures
@@ -29,7 +29,7 @@ put_byte-p-requires c = omega (arith, c.requires.n_in_bounds, whole (goal.at.put
 
 pub put_ipv6-q-requires : goal.put_ipv6-q-requires
 put_ipv6-q-requires c =
-    record { from_in_bounds = omega (arith, c.requires.address_at.0, sixteen _ c.if-n-eq4.false c.requires.address_at.1); from_in_bounds_2 = omega (arith, c.requires.n_in_bounds, whole (goal.at.put_ipv6-q-requires c).Start c.if-n-eq4.false, c.put_byte-p.ensures.place, wrote_length c.put_byte-p.ensures) }
+    record { from_in_bounds = omega (arith, c.requires.address_at.0, sixteen _ c.if-n-eq4.false c.requires.address_at.1); room_enough = omega (arith, c.requires.n_in_bounds, whole (goal.at.put_ipv6-q-requires c).Start c.if-n-eq4.false, c.put_byte-p.ensures.place, wrote_length c.put_byte-p.ensures) }
 
 pub put_byte-requires : goal.put_byte-requires
 put_byte-requires c = omega (arith, c.requires.n_in_bounds, whole (goal.at.put_byte-requires c).Start c.if-n-eq4.false, c.put_byte-p.ensures.place, wrote_length c.put_byte-p.ensures, c.put_ipv6-q.ensures.place, wrote_length c.put_ipv6-q.ensures)

@@ -5,4 +5,4 @@ use Rattle.bench.proofs.bench_put_ipv6.Goals as goal
 
 pub put_ipv6-requires : goal.put_ipv6-requires
 put_ipv6-requires c =
-    record { from_in_bounds = omega arith; from_in_bounds_2 = omega (arith, ipv6_fits c.args.src.now 0 (omega arith)) }
+    record { from_in_bounds = omega arith; room_enough = omega (arith, ipv6_fits c.args.src.now 0 (omega arith)) }

@@ -18,28 +18,28 @@ put_byte-p-requires c =
     let v = part c.args.src.now c.args.from c.args.n in
     let e = length_part c.args.src.now c.args.from c.args.n c.requires.n_in_bounds in
     let z = option_size c.args.delta c.args.n v e in
-    omega (arith, z, c.requires.n_in_bounds_2)
+    omega (arith, z, c.requires.room_enough)
 
 pub put_extension-q-requires : goal.put_extension-q-requires
 put_extension-q-requires c =
     let v = part c.args.src.now c.args.from c.args.n in
     let e = length_part c.args.src.now c.args.from c.args.n c.requires.n_in_bounds in
     let z = option_size c.args.delta c.args.n v e in
-    record { small = omega (arith, c.requires.small); n_in_bounds = omega (arith, z, c.requires.n_in_bounds_2, c.put_byte-p.ensures.place, wrote_length c.put_byte-p.ensures) }
+    record { small = omega (arith, c.requires.small); n_in_bounds = omega (arith, z, c.requires.room_enough, c.put_byte-p.ensures.place, wrote_length c.put_byte-p.ensures) }
 
 pub put_extension-r-requires : goal.put_extension-r-requires
 put_extension-r-requires c =
     let v = part c.args.src.now c.args.from c.args.n in
     let e = length_part c.args.src.now c.args.from c.args.n c.requires.n_in_bounds in
     let z = option_size c.args.delta c.args.n v e in
-    record { small = omega (arith, c.requires.small); n_in_bounds = omega (arith, z, c.requires.n_in_bounds_2, c.put_byte-p.ensures.place, wrote_length c.put_byte-p.ensures, c.put_extension-q.ensures.place, wrote_length c.put_extension-q.ensures) }
+    record { small = omega (arith, c.requires.small); n_in_bounds = omega (arith, z, c.requires.room_enough, c.put_byte-p.ensures.place, wrote_length c.put_byte-p.ensures, c.put_extension-q.ensures.place, wrote_length c.put_extension-q.ensures) }
 
 pub put_part-requires : goal.put_part-requires
 put_part-requires c =
     let v = part c.args.src.now c.args.from c.args.n in
     let e = length_part c.args.src.now c.args.from c.args.n c.requires.n_in_bounds in
     let z = option_size c.args.delta c.args.n v e in
-    record { n_in_bounds = c.requires.n_in_bounds; n_in_bounds_2 = omega (arith, z, c.requires.n_in_bounds_2, c.put_byte-p.ensures.place, wrote_length c.put_byte-p.ensures, c.put_extension-q.ensures.place, wrote_length c.put_extension-q.ensures, c.put_extension-r.ensures.place, wrote_length c.put_extension-r.ensures) }
+    record { n_in_bounds = c.requires.n_in_bounds; room_enough = omega (arith, z, c.requires.room_enough, c.put_byte-p.ensures.place, wrote_length c.put_byte-p.ensures, c.put_extension-q.ensures.place, wrote_length c.put_extension-q.ensures, c.put_extension-r.ensures.place, wrote_length c.put_extension-r.ensures) }
 
 pub returns : goal.returns
 returns c =

@@ -16,7 +16,7 @@ pub put_option-o-requires : goal.put_option-o-requires
 put_option-o-requires c =
     let t = turn (goal.at.put_option-o-requires c).After-span_at-span in
     let l = c.loop-left in
-    record { small = (omega (arith, l.invariant.2, c.requires.small), turn_small t l.invariant.1); n_in_bounds = t.inside; n_in_bounds_2 = next_room (turn_next t l.difference l.invariant.3) c.requires.count_in_bounds }
+    record { small = (omega (arith, l.invariant.2, c.requires.small), turn_small t l.invariant.1); n_in_bounds = t.inside; room_enough = next_room (turn_next t l.difference l.invariant.3) c.requires.count_in_bounds }
 
 pub loop-left-preserved : goal.loop-left-preserved
 loop-left-preserved c =

@@ -24,7 +24,7 @@ fits c =
     let a = c.args in
     let t = turn (goal.at.After-option_length-total c).After-span_at-span in
     let p = c.span_at-span.result in
-    omega (arith, (turn_count t l.difference l.invariant.3).sum, c.option_length-total.ensures (part a.s.now p.start p.length) (length_part a.s.now p.start p.length t.inside), c.requires.s_len_bound.0, coded_most a.delta a.s.now a.at a.count c.requires.s_len_bound.1 c.requires.row_at.0 c.requires.row_at.1)
+    omega (arith, (turn_count t l.difference l.invariant.3).sum, c.option_length-total.ensures (part a.s.now p.start p.length) (length_part a.s.now p.start p.length t.inside), c.requires.link_size.0, coded_most a.delta a.s.now a.at a.count c.requires.link_size.1 c.requires.row_at.0 c.requires.row_at.1)
 
 pub option_length-total-requires : goal.option_length-total-requires
 option_length-total-requires c = let t = turn c in (omega (arith, c.loop-left.invariant.2), turn_small t c.loop-left.invariant.1)

@@ -18,7 +18,7 @@ pub requested-requires : goal.requested-requires
 requested-requires c =
     let m = default_most _ _ (sym c.default_port.ensures ∙ ap default_is c.in-Is.is) in
     let p = port_most (port_of c.args.authority.port) _ c.requires.authority_asks.1 m in
-    record { s_len_bound = c.requires.asks.size; host_asks = (c.requires.authority_asks.0, omega (arith, p, c.port_or.ensures)); texts_ask = (c.requires.asks.path, c.requires.asks.query) }
+    record { link_size = c.requires.asks.size; host_asks = (c.requires.authority_asks.0, omega (arith, p, c.port_or.ensures)); texts_ask = (c.requires.asks.path, c.requires.asks.query) }
 
 pub returns-in-Unknown : goal.returns-in-Unknown
 returns-in-Unknown c =

@@ -23,7 +23,7 @@ put_byte-p-requires c =
 pub put_part-o-requires : goal.put_part-o-requires
 put_part-o-requires c =
     let t = turn (goal.at.put_part-o-requires c).After-span_at-span in
-    record { n_in_bounds = t.inside; n_in_bounds_2 = omega (arith, next_room (turn_next dotted dotted (λ t. dot ∷ t) dotted_each t c.loop-left.invariant.1) c.requires.count_in_bounds, length_part c.args.s.now c.span_at-span.result.start c.span_at-span.result.length t.inside, c.put_byte-p.ensures.place, wrote_length c.put_byte-p.ensures) }
+    record { n_in_bounds = t.inside; room_enough = omega (arith, next_room (turn_next dotted dotted (λ t. dot ∷ t) dotted_each t c.loop-left.invariant.1) c.requires.count_in_bounds, length_part c.args.s.now c.span_at-span.result.start c.span_at-span.result.length t.inside, c.put_byte-p.ensures.place, wrote_length c.put_byte-p.ensures) }
 
 pub loop-left-preserved : goal.loop-left-preserved
 loop-left-preserved c =

@@ -9,7 +9,7 @@ use Rattle.coap_values.proofs.put_labels.Goals as goal
 pub put_part-p-requires : goal.put_part-p-requires
 put_part-p-requires c =
     let f = first _ _ _ _ _ c.requires.row_at.1 c.requires.row_at.0 c.span_at-span.ensures in
-    record { n_in_bounds = f.inside; n_in_bounds_2 = omega (arith, c.requires.count_in_bounds, dotted_size f) }
+    record { n_in_bounds = f.inside; room_enough = omega (arith, c.requires.count_in_bounds, dotted_size f) }
 
 pub put_further_labels-requires : goal.put_further_labels-requires
 put_further_labels-requires c =

@@ -20,11 +20,11 @@ turn t =
 
 pub put_byte-p-requires : goal.put_byte-p-requires
 put_byte-p-requires c =
-    omega (arith, next_room (turn (goal.at.put_byte-p-requires c).In-loop-i) c.requires.n_in_bounds_2)
+    omega (arith, next_room (turn (goal.at.put_byte-p-requires c).In-loop-i) c.requires.room_enough)
 
 pub put_decimal-o-requires : goal.put_decimal-o-requires
 put_decimal-o-requires c =
-    omega (arith, next_room (turn (goal.at.put_decimal-o-requires c).In-loop-i) c.requires.n_in_bounds_2)
+    omega (arith, next_room (turn (goal.at.put_decimal-o-requires c).In-loop-i) c.requires.room_enough)
 
 pub loop-i-preserved : goal.loop-i-preserved
 loop-i-preserved c =

@@ -23,7 +23,7 @@ put_decimal-p-requires c = omega (arith, lengths (goal.at.put_decimal-p-requires
 
 pub put_further_octets-requires : goal.put_further_octets-requires
 put_further_octets-requires c =
-    record { n_in_bounds = omega arith; n_in_bounds_2 = omega (arith, lengths (goal.at.put_further_octets-requires c).Start) }
+    record { n_in_bounds = omega arith; room_enough = omega (arith, lengths (goal.at.put_further_octets-requires c).Start) }
 
 pub returns : goal.returns
 returns c =

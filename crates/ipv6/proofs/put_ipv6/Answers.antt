@@ -25,7 +25,7 @@ put_bytes-p-requires c = omega (arith, ap length (mixed (goal.at.put_bytes-p-req
 
 pub put_ipv4-requires : goal.put_ipv4-requires
 put_ipv4-requires c =
-    record { from_in_bounds = omega arith; from_in_bounds_2 = omega (arith, ap length (mixed (goal.at.put_ipv4-requires c).Then-is_mapped)) }
+    record { from_in_bounds = omega arith; room_enough = omega (arith, ap length (mixed (goal.at.put_ipv4-requires c).Then-is_mapped)) }
 
 pub returns-then-is_mapped : goal.returns-then-is_mapped
 returns-then-is_mapped c =
@@ -33,7 +33,7 @@ returns-then-is_mapped c =
 
 pub put_hex_text-requires : goal.put_hex_text-requires
 put_hex_text-requires c =
-    record { from_in_bounds = c.requires.from_in_bounds; run_value = c.longest_run-run.ensures; from_in_bounds_2 = rw (hexed (goal.at.put_hex_text-requires c).Else-is_mapped) at c.requires.from_in_bounds_2 }
+    record { from_in_bounds = c.requires.from_in_bounds; run_value = c.longest_run-run.ensures; room_enough = rw (hexed (goal.at.put_hex_text-requires c).Else-is_mapped) at c.requires.room_enough }
 
 pub returns : goal.returns
 returns c = rw (hexed (goal.at.returns c).Else-is_mapped) c.put_hex_text.ensures

@@ -8,9 +8,9 @@ use Rattle.put.proofs.put_blocks.Goals as goal
 
 pub loop-k-preserved : goal.loop-k-preserved
 loop-k-preserved c =
-    (omega (arith, c.requires.le_n), (wrote_over c.args.src.now c.args.at c.args.from c.loop-k.k c.loop-k.k 8 (omega arith) (omega arith) (omega (arith, c.requires.le_n)) c.loop-k.invariant.1 c.put_eight.ensures).bytes)
+    (omega (arith, c.requires.eight_or_more), (wrote_over c.args.src.now c.args.at c.args.from c.loop-k.k c.loop-k.k 8 (omega arith) (omega arith) (omega (arith, c.requires.eight_or_more)) c.loop-k.invariant.1 c.put_eight.ensures).bytes)
 
 pub returns : goal.returns
 returns c =
-    let e : c.args.n - 8 + 8 ≡ c.args.n = omega (arith, c.requires.le_n) in
-    wrote_as (ap (part c.args.src.now c.args.from) e) (wrote_over c.args.src.now c.args.at c.args.from c.loop-k.k (c.args.n - 8) 8 (omega (arith, c.loop-k-test.false)) (omega (arith, c.loop-k.invariant.0, c.requires.le_n)) (omega (arith, c.requires.le_n)) c.loop-k.invariant.1 c.put_eight-2.ensures)
+    let e : c.args.n - 8 + 8 ≡ c.args.n = omega (arith, c.requires.eight_or_more) in
+    wrote_as (ap (part c.args.src.now c.args.from) e) (wrote_over c.args.src.now c.args.at c.args.from c.loop-k.k (c.args.n - 8) 8 (omega (arith, c.loop-k-test.false)) (omega (arith, c.loop-k.invariant.0, c.requires.eight_or_more)) (omega (arith, c.requires.eight_or_more)) c.loop-k.invariant.1 c.put_eight-2.ensures)

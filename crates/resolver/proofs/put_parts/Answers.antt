@@ -19,20 +19,20 @@ overflow_add-count-2 c =
 pub put_head-a-requires : goal.put_head-a-requires
 put_head-a-requires c =
     let z = sizes c.args.base.now c.args.reference.now c.args.p c.requires.parts_small c.path_items.ensures in
-    omega (arith, z.head, z.total, c.requires.p_in_bounds)
+    omega (arith, z.head, z.total, c.requires.room_enough)
 
 pub put_both-b-requires : goal.put_both-b-requires
 put_both-b-requires c =
     let z = sizes c.args.base.now c.args.reference.now c.args.p c.requires.parts_small c.path_items.ensures in
     let p = c.put_head-a.ensures in
-    record { both_inside = c.requires.parts_small.1.front; length_in_bounds = omega (arith, z.head, z.total, c.requires.p_in_bounds, p.place, wrote_length p) }
+    record { both_inside = c.requires.parts_small.1.front; length_in_bounds = omega (arith, z.head, z.total, c.requires.room_enough, p.place, wrote_length p) }
 
 pub put_path_head-c-requires : goal.put_path_head-c-requires
 put_path_head-c-requires c =
     let z = sizes c.args.base.now c.args.reference.now c.args.p c.requires.parts_small c.path_items.ensures in
     let p = c.put_head-a.ensures in
     let q = c.put_both-b.ensures in
-    omega (arith, z.head, z.front, z.total, c.requires.p_in_bounds, p.place, wrote_length p, q.place, wrote_length q)
+    omega (arith, z.head, z.front, z.total, c.requires.room_enough, p.place, wrote_length p, q.place, wrote_length q)
 
 pub put_both-d-requires : goal.put_both-d-requires
 put_both-d-requires c =
@@ -40,7 +40,7 @@ put_both-d-requires c =
     let p = c.put_head-a.ensures in
     let q = c.put_both-b.ensures in
     let r = c.put_path_head-c.ensures in
-    record { both_inside = c.requires.parts_small.1.path; length_in_bounds = omega (arith, z.head, z.front, z.total, c.requires.p_in_bounds, p.place, wrote_length p, q.place, wrote_length q, r.place, wrote_length r) }
+    record { both_inside = c.requires.parts_small.1.path; length_in_bounds = omega (arith, z.head, z.front, z.total, c.requires.room_enough, p.place, wrote_length p, q.place, wrote_length q, r.place, wrote_length r) }
 
 pub put_both-requires : goal.put_both-requires
 put_both-requires c =
@@ -49,7 +49,7 @@ put_both-requires c =
     let q = c.put_both-b.ensures in
     let r = c.put_path_head-c.ensures in
     let v = c.put_both-d.ensures in
-    record { both_inside = c.requires.parts_small.1.tail; length_in_bounds = omega (arith, z.head, z.front, z.path, z.total, c.requires.p_in_bounds, p.place, wrote_length p, q.place, wrote_length q, r.place, wrote_length r, v.place, wrote_length v) }
+    record { both_inside = c.requires.parts_small.1.tail; length_in_bounds = omega (arith, z.head, z.front, z.path, z.total, c.requires.room_enough, p.place, wrote_length p, q.place, wrote_length q, r.place, wrote_length r, v.place, wrote_length v) }
 
 pub returns : goal.returns
 unfolding parts_of

@@ -17,7 +17,7 @@ parts_of-requires c =
     let ref = c.args.reference.now in
     let d = base_says base _ (sym c.read_base.ensures ∙ ap answer_is c.in-Is.is) in
     let e = sym c.read.ensures ∙ ap answer_is c.in-Is-read.is in
-    record { laid = (ok_at (laid limits base (octets_of base (λ i. omega (arith, c.type_inv.base i)))) d.found, ok_at (read_size limits base) d.found); laid_2 = (ok_at (laid limits ref (octets_of ref (λ i. omega (arith, c.type_inv.reference i)))) e, ok_at (read_size limits ref) e) }
+    record { base_laid = (ok_at (laid limits base (octets_of base (λ i. omega (arith, c.type_inv.base i)))) d.found, ok_at (read_size limits base) d.found); reference_laid = (ok_at (laid limits ref (octets_of ref (λ i. omega (arith, c.type_inv.reference i)))) e, ok_at (read_size limits ref) e) }
 
 pub put_result-requires : goal.put_result-requires
 put_result-requires c =

@@ -11,17 +11,17 @@ use Rattle.resolver_parts.proofs.ResultParts.{path_ends, row_self, row_small, pa
 use Rattle.resolver_parts.proofs.path_of.Goals as goal
 
 pub row_of-new-requires : goal.row_of-new-requires
-row_of-new-requires c = path_ends c.args.reference.now (slot_of c.args.r.path) c.tail_start-2.result (subst (PathLaid c.args.reference.now (slot_of c.args.r.path)) (sym c.tail_start-2.ensures) c.requires.laid_2.0.path)
+row_of-new-requires c = path_ends c.args.reference.now (slot_of c.args.r.path) c.tail_start-2.result (subst (PathLaid c.args.reference.now (slot_of c.args.r.path)) (sym c.tail_start-2.ensures) c.requires.reference_laid.0.path)
 
 pub kept_row-requires : goal.kept_row-requires
-kept_row-requires c = row_self (c.normal_row-row.ensures _ _ (c.row_of.ensures _ (subst (PathLaid c.args.base.now (slot_of c.args.b.path)) (sym c.tail_start.ensures) c.requires.laid.0.path)))
+kept_row-requires c = row_self (c.normal_row-row.ensures _ _ (c.row_of.ensures _ (subst (PathLaid c.args.base.now (slot_of c.args.b.path)) (sym c.tail_start.ensures) c.requires.base_laid.0.path)))
 
 pub joined-requires : goal.joined-requires
-joined-requires c = (row_small c.kept_row.ensures c.requires.laid.1, row_small (c.row_of-new.ensures _ (subst (PathLaid c.args.reference.now (slot_of c.args.r.path)) (sym c.tail_start-2.ensures) c.requires.laid_2.0.path)) c.requires.laid_2.1)
+joined-requires c = (row_small c.kept_row.ensures c.requires.base_laid.1, row_small (c.row_of-new.ensures _ (subst (PathLaid c.args.reference.now (slot_of c.args.r.path)) (sym c.tail_start-2.ensures) c.requires.reference_laid.0.path)) c.requires.reference_laid.1)
 
 pub returns : goal.returns
 returns c =
     let a = c.args in
-    let old = c.normal_row-row.ensures _ _ (c.row_of.ensures _ (subst (PathLaid c.args.base.now (slot_of c.args.b.path)) (sym c.tail_start.ensures) c.requires.laid.0.path)) in
+    let old = c.normal_row-row.ensures _ _ (c.row_of.ensures _ (subst (PathLaid c.args.base.now (slot_of c.args.b.path)) (sym c.tail_start.ensures) c.requires.base_laid.0.path)) in
     path_as (ap (λ (ts : List Bytes). normal_path (kept (opening_of a.r.opening) ts ++ elements (said_texts a.reference.now (slot_of a.r.path)))) old.says)
-    (c.joined.ensures a.base.now a.reference.now _ _ c.kept_row.ensures (c.row_of-new.ensures _ (subst (PathLaid c.args.reference.now (slot_of c.args.r.path)) (sym c.tail_start-2.ensures) c.requires.laid_2.0.path)))
+    (c.joined.ensures a.base.now a.reference.now _ _ c.kept_row.ensures (c.row_of-new.ensures _ (subst (PathLaid c.args.reference.now (slot_of c.args.r.path)) (sym c.tail_start-2.ensures) c.requires.reference_laid.0.path)))

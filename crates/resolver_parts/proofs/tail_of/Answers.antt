@@ -12,8 +12,8 @@ returns-then-takes_query c =
     let a = c.args in
     old_query a.base.now a.reference.now (slot_of a.b.query) (slot_of a.b.fragment) (opening_of a.r.opening) (slot_of a.r.path) (slot_of a.r.query) (slot_of a.r.fragment) _
     (sym c.takes_query.ensures ∙ c.if-takes_query.true)
-    (span_is_lem (between_at (sym c.tail_start-from.ensures) (sym c.fragment_start-to.ensures) c.requires.tail_laid.query) _ c.between.ensures)
-    (span_is_lem (between_at (sym c.fragment_start.ensures) refl c.requires.tail_laid_2.fragment) _ c.between-then-takes_query.ensures)
+    (span_is_lem (between_at (sym c.tail_start-from.ensures) (sym c.fragment_start-to.ensures) c.requires.base_tail.query) _ c.between.ensures)
+    (span_is_lem (between_at (sym c.fragment_start.ensures) refl c.requires.reference_tail.fragment) _ c.between-then-takes_query.ensures)
     c.count_further.ensures
 
 pub returns : goal.returns
@@ -22,5 +22,5 @@ returns c =
     own_query a.base.now a.reference.now (slot_of a.b.query) (opening_of a.r.opening) (slot_of a.r.path) (slot_of a.r.query) (slot_of a.r.fragment) _
     (sym c.takes_query.ensures ∙ c.if-takes_query.false)
     (span_none _ c.nowhere.ensures)
-    (span_is_lem (between_at (sym c.tail_start.ensures) refl (between_then c.requires.tail_laid_2.query c.requires.tail_laid_2.fragment)) _ c.between-2.ensures)
+    (span_is_lem (between_at (sym c.tail_start.ensures) refl (between_then c.requires.reference_tail.query c.requires.reference_tail.fragment)) _ c.between-2.ensures)
     (c.count_further-2.ensures ∙ ap (λ (q : Bool). further_of q (slot_of a.r.fragment)) c.is_set.ensures)

@@ -20,7 +20,7 @@ turn t =
 
 pub put_escaped_byte-o-requires : goal.put_escaped_byte-o-requires
 put_escaped_byte-o-requires c =
-    record { table = c.requires.table; b_in_bounds = next_room (turn (goal.at.put_escaped_byte-o-requires c).In-loop-i) c.requires.n_in_bounds_2 }
+    record { table = c.requires.table; room_enough = next_room (turn (goal.at.put_escaped_byte-o-requires c).In-loop-i) c.requires.room_enough }
 
 pub loop-i-preserved : goal.loop-i-preserved
 loop-i-preserved c =

@@ -18,7 +18,7 @@ bare c = escape_bare _ _ (sym c.stand_bare.ensures ∙ c.if-stand_bare.true)
 pub put_part-requires : goal.put_part-requires
 put_part-requires c =
     let a = c.args in
-    record { n_in_bounds = c.requires.n_in_bounds; n_in_bounds_2 = omega (arith, c.requires.n_in_bounds_2, ap length (bare (goal.at.put_part-requires c).Then-stand_bare), length_part a.src.now a.from a.n c.requires.n_in_bounds) }
+    record { n_in_bounds = c.requires.n_in_bounds; room_enough = omega (arith, c.requires.room_enough, ap length (bare (goal.at.put_part-requires c).Then-stand_bare), length_part a.src.now a.from a.n c.requires.n_in_bounds) }
 
 pub returns-then-stand_bare : goal.returns-then-stand_bare
 returns-then-stand_bare c = wrote_as (sym (bare (goal.at.returns-then-stand_bare c).Then-stand_bare)) c.put_part.ensures

@@ -9,7 +9,7 @@ use Rattle.uri_parts.proofs.host_length.Goals as goal
 
 pub address_length-requires : goal.address_length-requires
 address_length-requires c = let e = ap host_of c.in-Address.is in
-    record { address_at = rw e at c.requires.host_prints; n_len_bound = omega (arith, c.requires.short, ap length (host_address c.args.s.now e)) }
+    record { address_at = rw e at c.requires.host_prints; text_fits = omega (arith, c.requires.short, ap length (host_address c.args.s.now e)) }
 
 pub overflow_add-result : goal.overflow_add-result
 overflow_add-result c = omega (arith, c.requires.short, c.address_length.ensures, ap length (host_address c.args.s.now (ap host_of c.in-Address.is)))

@@ -14,7 +14,7 @@ put_byte-p-requires c =
 pub put_long-requires : goal.put_long-requires
 put_long-requires c =
     let e = ap slot_of c.in-Set.is in
-    record { table = (c.requires.table, c.upper_hex_digits-digits.ensures); n_in_bounds = rw e at c.requires.text_stands; n_in_bounds_2 = omega (arith, c.requires.fragment_in_bounds, c.put_byte-p.ensures.place, wrote_length c.put_byte-p.ensures, ap length (fragment_set c.args.s.now e)) }
+    record { table = (c.requires.table, c.upper_hex_digits-digits.ensures); n_in_bounds = rw e at c.requires.text_stands; room_enough = omega (arith, c.requires.fragment_in_bounds, c.put_byte-p.ensures.place, wrote_length c.put_byte-p.ensures, ap length (fragment_set c.args.s.now e)) }
 
 pub returns-in-Unset : goal.returns-in-Unset
 returns-in-Unset c = wrote_as (fragment_unset _ (ap slot_of c.in-Unset.is)) wrote_none

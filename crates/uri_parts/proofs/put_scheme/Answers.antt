@@ -15,7 +15,7 @@ pub put_part-requires : goal.put_part-requires
 put_part-requires c =
     let e = ap scheme_of c.in-Name.is in
     let h = rw e at c.requires.scheme_stands in
-    record { n_in_bounds = h; n_in_bounds_2 = omega (arith, c.requires.scheme_in_bounds, ap length (scheme_name_lem c.args.s.now e), length_part c.args.s.now _ _ h) }
+    record { n_in_bounds = h; room_enough = omega (arith, c.requires.scheme_in_bounds, ap length (scheme_name_lem c.args.s.now e), length_part c.args.s.now _ _ h) }
 
 pub returns-in-Unset : goal.returns-in-Unset
 returns-in-Unset c = wrote_as (scheme_none _ (ap scheme_of c.in-Unset.is)) wrote_none

@@ -19,7 +19,7 @@ put_byte-p-requires c =
 pub put_escaped-o-requires : goal.put_escaped-o-requires
 put_escaped-o-requires c =
     let t = turn (goal.at.put_escaped-o-requires c).After-span_at-span in
-    record { table = (c.requires.table, c.upper_hex_digits-digits.ensures); n_in_bounds = t.inside; n_in_bounds_2 = omega (arith, next_room (turn_next (class_is c.args.class) t c.loop-left.mark c.args.further c.loop-left.invariant.1) c.requires.count_in_bounds, wrote_length c.put_byte-p.ensures) }
+    record { table = (c.requires.table, c.upper_hex_digits-digits.ensures); n_in_bounds = t.inside; room_enough = omega (arith, next_room (turn_next (class_is c.args.class) t c.loop-left.mark c.args.further c.loop-left.invariant.1) c.requires.count_in_bounds, wrote_length c.put_byte-p.ensures) }
 
 pub loop-left-preserved : goal.loop-left-preserved
 loop-left-preserved c =

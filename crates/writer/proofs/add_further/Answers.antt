@@ -15,12 +15,12 @@ returns-then-further-eq0 c =
 
 pub overflow_mul-segments : goal.overflow_mul-segments
 overflow_mul-segments c =
-    let few = counted_each c.args.spans.now c.args.c c.requires.c_value in
+    let few = counted_each c.args.spans.now c.args.c c.requires.few in
     omega (arith, few.0, c.label_count-segments.ensures)
 
 pub add_slot-after_path-requires : goal.add_slot-after_path-requires
 add_slot-after_path-requires c =
-    let few = counted_each c.args.spans.now c.args.c c.requires.c_value in
+    let few = counted_each c.args.spans.now c.args.c c.requires.few in
     omega (arith, few.0, few.1, c.label_count-segments.ensures)
 
 pub returns-then-further-eq1 : goal.returns-then-further-eq1
@@ -32,17 +32,17 @@ returns-then-further-eq1 c =
 
 pub overflow_mul-parameters : goal.overflow_mul-parameters
 overflow_mul-parameters c =
-    let few = counted_each c.args.spans.now c.args.c c.requires.c_value in
+    let few = counted_each c.args.spans.now c.args.c c.requires.few in
     omega (arith, few.1, c.text_count.ensures)
 
 pub overflow_add-parameters : goal.overflow_add-parameters
 overflow_add-parameters c =
-    let few = counted_each c.args.spans.now c.args.c c.requires.c_value in
+    let few = counted_each c.args.spans.now c.args.c c.requires.few in
     omega (arith, few.0, few.1, c.text_count.ensures, c.label_count-segments.ensures)
 
 pub add_slot-after_query-requires : goal.add_slot-after_query-requires
 add_slot-after_query-requires c =
-    let few = counted_each c.args.spans.now c.args.c c.requires.c_value in
+    let few = counted_each c.args.spans.now c.args.c c.requires.few in
     omega (arith, few.0, few.1, few.2, c.text_count.ensures, c.label_count-segments.ensures)
 
 pub returns : goal.returns

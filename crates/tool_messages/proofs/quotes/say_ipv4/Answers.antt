@@ -11,7 +11,7 @@ use Rattle.tool_messages.proofs.quotes.say_ipv4.Goals.{After-room-2-1}
 pub put_ipv4-n-requires : goal.put_ipv4-n-requires
 put_ipv4-n-requires c =
     let f = ipv4_fits c.args.a.now 0 (omega arith) (octets_of c.args.a.now (λ i. (c.type_inv.a i).fits)) in
-    record { from_in_bounds = omega arith; from_in_bounds_2 = omega (arith, f) }
+    record { from_in_bounds = omega arith; room_enough = omega (arith, f) }
 
 pub slice_bounds-room-end : goal.slice_bounds-room-end
 slice_bounds-room-end c =

@@ -10,7 +10,7 @@ use Rattle.tool_messages.proofs.quotes.say_ipv6.Goals.{After-room-2-1}
 pub put_ipv6-n-requires : goal.put_ipv6-n-requires
 put_ipv6-n-requires c =
     let f = ipv6_fits c.args.a.now 0 (omega arith) in
-    record { from_in_bounds = omega arith; from_in_bounds_2 = omega (arith, f) }
+    record { from_in_bounds = omega arith; room_enough = omega (arith, f) }
 
 pub slice_bounds-room-end : goal.slice_bounds-room-end
 slice_bounds-room-end c =
