@@ -2,7 +2,7 @@
 use crate::{Call, compare, inputs, Random, room};
 
 extern "C" {
-    fn bench_put_escaped(room: *mut u8, room_length: usize, src: *const u8, length: usize, class: u8, table: *const u8) -> usize;
+    fn bench_put_escaped(room: *mut u8, room_length: usize, src: *const u8, length: usize, class: u8) -> usize;
 }
 
 // A text and its class: 0 label, 1 segment, 2 parameter, 3 fragment.
@@ -10,7 +10,7 @@ type Input = (Vec<u8>, u8);
 
 fn rattle((src, class): &Input) -> usize {
     let room = room();
-    unsafe { bench_put_escaped(room.as_mut_ptr(), room.len(), src.as_ptr(), src.len(), *class, LETTERS.as_ptr()) }
+    unsafe { bench_put_escaped(room.as_mut_ptr(), room.len(), src.as_ptr(), src.len(), *class) }
 }
 
 const fn classes(b: u8) -> u8 {
@@ -26,17 +26,6 @@ static BARE: [u8; 256] = {
     let mut b = 0;
     while b < 256 {
         table[b] = classes(b as u8);
-        b += 1;
-    }
-    table
-};
-
-// The same as the proved code has them: letters from "@" on.
-static LETTERS: [u8; 256] = {
-    let mut table = BARE;
-    let mut b = 0;
-    while b < 256 {
-        table[b] += b'@';
         b += 1;
     }
     table

@@ -1,33 +1,36 @@
 -- What the text of an address is, by how many bytes it has.
-use Prim.Native.Nat.{ℕ, ◌+◌, ◌≤◌}
-use mathlib.Core.Path.{◌≡◌, sym, ap, ◌∙◌, subst}
+use Prim.Native.Nat.{ℕ, ◌+◌, ◌-◌, ◌≤◌}
+use native.Mathlib.Omega.{arith}
+use mathlib.Core.Path.{◌≡◌, sym, ap, subst}
 use mathlib.Core.Bool.{true}
 use mathlib.Core.List.{[], ◌∷◌, ◌++◌}
-use lib.ListN.{length}
-use lib.Dec.{eqb}
-use borrow.Author.Tests.{eqb-true, eq-eqb, ne_eqb}
+use lib.ListN.{length, take, drop, length-append}
+use borrow.Author.Tests.{eq-eqb, ne_eqb}
 use Rattle.rules.specs.Bytes.{Bytes, part}
 use Rattle.rules.specs.Rules.{address_size}
 use Rattle.rules.specs.Address.{ipv4_text, ipv6_text, left_bracket, right_bracket, address_text}
 use Rattle.rules.specs.Valid.{GoodAddress}
-use Rattle.rules.proofs.Tools.{or_right, cond_yes, cond_no, length_part}
+use Rattle.rules.proofs.Slices.{slice_part}
+use Rattle.rules.proofs.Tools.{cond_yes, cond_no, length_part}
 use Rattle.addresses.specs.AddressAt.{AddressAt}
 
-pub sixteen : (n : ℕ) → (n ≡ 4 → ⊥) → address_size n ≡ true → n ≡ 16
-sixteen n k h = eqb-true _ _ (or_right (eqb n 4) _ h (ne_eqb n 4 k))
-
-module _ (bs : Bytes) (from n : ℕ) where
-  pub ipv4_text_lem : n ≡ 4 → from + n ≤ length bs → ipv4_text (part bs from 4) ≡ address_text (part bs from n)
+module _ (bs : Bytes) where
+  pub ipv4_text_lem : length bs ≡ 4 → ipv4_text bs ≡ address_text bs
   unfolding address_text
-  ipv4_text_lem e h = ap (λ (k : ℕ). ipv4_text (part bs from k)) (sym e) ∙ sym (cond_yes _ _ _ (eq-eqb _ _ (length_part bs from n h ∙ e)))
+  ipv4_text_lem e = sym (cond_yes _ _ _ (eq-eqb _ _ e))
 
-  pub ipv6_text_lem : (n ≡ 4 → ⊥) → AddressAt bs from n
-      → (left_bracket ∷ []) ++ (ipv6_text (part bs from 16) ++ (right_bracket ∷ [])) ≡ address_text (part bs from n)
+  pub ipv6_text_lem : (length bs ≡ 4 → ⊥) → (left_bracket ∷ []) ++ (ipv6_text bs ++ (right_bracket ∷ [])) ≡ address_text bs
   unfolding address_text
-  ipv6_text_lem k h =
-      ap (λ (k : ℕ). left_bracket ∷ (ipv6_text (part bs from k) ++ (right_bracket ∷ []))) (sym (sixteen n k h.1))
-      ∙ sym (cond_no _ _ _ (ne_eqb _ _ (λ e. k (sym (length_part bs from n h.0) ∙ e))))
+  ipv6_text_lem k = sym (cond_no _ _ _ (ne_eqb _ _ k))
 
-  -- an address of an accepted input
-  pub address_at_lem : from + n ≤ length bs → GoodAddress (part bs from n) → AddressAt bs from n
-  address_at_lem h g = (h, subst (λ (k : ℕ). address_size k ≡ true) (length_part bs from n h) g.size)
+  -- with its brackets
+  pub bracket_lengths : (length bs ≡ 4 → ⊥) → length (ipv6_text bs) + 2 ≡ length (address_text bs)
+  bracket_lengths k = omega (arith, ap length (ipv6_text_lem k), length-append (ipv6_text bs) (right_bracket ∷ []))
+
+-- an address of an accepted input
+pub address_at_lem : (bs : Bytes) (from n : ℕ) → from + n ≤ length bs → GoodAddress (part bs from n) → AddressAt bs from n
+address_at_lem bs from n h g = (h, subst (λ (k : ℕ). address_size k ≡ true) (length_part bs from n h) g.size)
+
+-- and cut out by the code
+pub address_slice : (bs : Bytes) (at n : ℕ) → AddressAt bs at n → address_size (length (take (at + n - at) (drop at bs))) ≡ true
+address_slice bs at n h = rw (slice_part bs at n, length_part bs at n h.0) h.1

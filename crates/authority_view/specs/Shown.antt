@@ -1,9 +1,7 @@
 -- Parts of one of two slices, and what the code's answers say of them.
 use Rattle.std.specs.Borrow.{Bor}
 use Rattle.rules.specs.Bytes.{Bytes}
-use Rattle.rules.specs.Result.{Res, ok}
 use Rattle.rules.specs.Views as Views
-use Rattle.refusals.specs.Answers.{refusal_is}
 use Rattle.cbor.specs.Heads.{span_is}
 use Rattle.segment_view.specs.Shown.{PartOf}
 use Rattle.authority_view.specs.declared.Piece.{Piece}
@@ -14,8 +12,7 @@ abbrev pub PieceOf : Bor Bytes → Bor Bytes → Bor Bytes → Views.Piece → T
 PieceOf base ref r (Views.of_reference s) = PartOf ref r s
 PieceOf base ref r (Views.of_base s) = PartOf base r s
 
--- where a part of the reference or of the base stands, or a refusal
-abbrev pub piece_is : Piece → Res Views.Piece
-piece_is (PieceV.OfReference s) = ok (Views.of_reference (span_is s))
-piece_is (PieceV.OfBase s) = ok (Views.of_base (span_is s))
-piece_is (PieceV.Refused r) = refusal_is r
+-- where a part of the reference or of the base stands
+abbrev pub piece_is : Piece → Views.Piece
+piece_is (PieceV.OfReference s) = Views.of_reference (span_is s)
+piece_is (PieceV.OfBase s) = Views.of_base (span_is s)

@@ -5,8 +5,6 @@ use Rattle.rules.specs.Result.{Res, refused, ok, need, ◌>>=◌, ◌>>◌, CUT}
 use Rattle.rules.specs.Head.{Kind, Number, Text, Head, is, read_head}
 use Rattle.rules.specs.Text.{Class, Label, Segment, Parameter, Fragment}
 use Rattle.bench.specs.declared.Answer.{Answer}
-use Rattle.bench.specs.declared.Step.{Step}
-use Rattle.bench.specs.declared.Step.TheVariants as StepV
 
 -- a class by its number
 abbrev pub class_of : ℕ → Class
@@ -42,8 +40,3 @@ items allowed bs at (suc n) = after_item allowed bs at >>= (λ next. items allow
 abbrev pub answer : Res ℕ → Answer
 answer (refused n place) = record { number = n; next = 0 }
 answer (ok next) = record { number = 0; next = next }
-
--- a step, whose refusal's place is the item's
-abbrev pub step_is : ℕ → Step → Res ℕ
-step_is at (StepV.Next next) = ok next
-step_is at (StepV.Refused n) = refused n at

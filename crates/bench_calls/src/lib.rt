@@ -5,17 +5,18 @@ ghost use Rattle.std.specs.Prelude.{◌≡◌, length};
 ghost use Rattle.rules.specs.Model.{limits};
 ghost use Rattle.rules.specs.Calls.{length_of, outcome, after, read_call, resolve_call, text_call, options_call};
 ghost use Rattle.components.specs.Layout.{spans_after};
+ghost use Rattle.refusals.specs.Answers.{number_of};
 ghost use Rattle.outcomes.specs.Answers.{outcome_is};
 ghost use Rattle.bench_calls.specs.Packed.{packed_refusal, packed, packed_read, segment_count};
 ghost use Rattle.round_trip.specs.Again.{again};
 
-use cri::{Outcome, Refusal, Spans, Verdict};
+use cri::{Outcome, Refusal, Spans};
 
 // What a refusal is as one number: its own, and 256 times its place.
 fn refusal_packed(refusal: Refusal) -> u64
-    ensures { result ≡ packed_refusal refusal.number refusal.place }
+    ensures { result ≡ packed_refusal (number_of refusal.reason) refusal.place }
 {
-    refusal.number as u64 + 256 * ((refusal.place % 65536) as u64)
+    refusal.reason as u64 + 256 * ((refusal.place % 65536) as u64)
 }
 
 // Of a done call 256 times the length written; or the refusal.
@@ -23,8 +24,8 @@ fn outcome_packed(outcome: Outcome) -> u64
     ensures { result ≡ packed (outcome_is outcome) }
 {
     match outcome {
-        Outcome::Written(n) => 256 * ((n % 65536) as u64),
-        Outcome::Refused(refusal) => refusal_packed(refusal),
+        Ok(n) => 256 * ((n % 65536) as u64),
+        Err(refusal) => refusal_packed(refusal),
     }
 }
 
@@ -34,11 +35,9 @@ pub extern "C" fn bench_read(s: &[u8], spans: &mut Spans) -> u64
     ensures value { result ≡ packed_read (read_call limits s.now) }
     ensures spans_after { spans.new ≡ spans_after (read_call limits s.now) spans.old }
 {
-    let reading = cri::read(s, spans);
-    let verdict = reading.verdict;
-    match verdict {
-        Verdict::Accepted => 0,
-        Verdict::Refused(refusal) => refusal_packed(refusal),
+    match cri::read(s, spans) {
+        Ok(_) => 0,
+        Err(refusal) => refusal_packed(refusal),
     }
 }
 
@@ -48,10 +47,10 @@ pub extern "C" fn bench_segments(s: &[u8], spans: &mut Spans) -> usize
     ensures value { result ≡ segment_count (read_call limits s.now) }
     ensures spans_after { spans.new ≡ spans_after (read_call limits s.now) spans.old }
 {
-    let reading = cri::read(s, spans);
-    let components = reading.components;
-    let path = components.path;
-    components::text_count(path)
+    match cri::read(s, spans) {
+        Ok(components) => components::text_count(components.path),
+        Err(_) => 0,
+    }
 }
 
 // A link read, and written again into the room: the length written.

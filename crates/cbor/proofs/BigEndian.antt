@@ -5,10 +5,10 @@ use native.Mathlib.Numerals.{add-one}
 use native.Mathlib.Nat.{add-mul, mul_assoc, mul-le-mul_right, pow-suc, pow-succ', pow-le-pow_right}
 use mathlib.Core.Path.{◌≡◌, sym, ap, ◌∙◌, subst}
 use mathlib.Core.List.{[], ◌∷◌}
-use lib.ListN.{length, get_or}
+use lib.ListN.{length, get_or, drop, drop_of_length-le}
+use lib.Seq.{drop-cons}
 use lib.Dec.{lit<}
-use Rattle.rules.specs.Bytes.{Bytes, Octets, part, number_from}
-use Rattle.rules.proofs.Tools.{part_step, part_end}
+use Rattle.rules.specs.Bytes.{Bytes, Octets, number_from}
 
 -- what stands before the bytes
 number_after_lem : (v : ℕ) (xs : Bytes) → number_from v xs ≡ v * 256 ^ length xs + number_from 0 xs
@@ -34,16 +34,15 @@ number_below (b ∷ bs) o =
     let m : (b + 1) * p ≤ 256 * p = mul-le-mul_right p (omega arith) in
     omega (arith, m, add-mul b 1 p, add-mul (0 * 256) b p, pow-succ' 256 (length bs), number_after_lem (0 * 256 + b) bs, number_below bs o.1)
 
--- ---- read from i up to `end`, where v is the number of the bytes passed
+-- ---- read byte by byte, where v is the number of the bytes passed
 
-pub number_step : (bs : Bytes) (i end v : ℕ) → i < end → end ≤ length bs
-    → number_from v (part bs i (end - i)) ≡ number_from (v * 256 + get_or bs i 0) (part bs (i + 1) (end - (i + 1)))
+pub number_step : (bs : Bytes) (i v : ℕ) → i < length bs → number_from v (drop i bs) ≡ number_from (v * 256 + get_or bs i 0) (drop (i + 1) bs)
 unfolding number_from
-number_step bs i end v h l = ap (number_from v) (part_step bs i end h l)
+number_step bs i v h = rw (add-one, drop-cons bs i 0 h)
 
-pub number_end : (bs : Bytes) (i end v : ℕ) → end ≤ i → number_from v (part bs i (end - i)) ≡ v
+pub number_end : (bs : Bytes) (i v : ℕ) → length bs ≤ i → number_from v (drop i bs) ≡ v
 unfolding number_from
-number_end bs i end v h = ap (number_from v) (part_end bs i end h)
+number_end bs i v h = ap (number_from v) (drop_of_length-le bs h)
 
 -- a number of j bytes has room for one more, where j is less than 8
 pub record Room (j v b : ℕ) : Type 0 where
@@ -56,9 +55,3 @@ room j v b h hv hb =
     let e : 256 ^ (j + 1) ≡ 256 ^ j * 256 = ap (λ (n : ℕ). 256 ^ n) (add-one j) ∙ pow-suc 256 j in
     let m : 256 ^ j ≤ 256 ^ 7 = pow-le-pow_right (lit< tt) {i = j} {j = 7} (omega arith) in
     record { shifted = omega arith; fits = omega arith; grown = omega arith }
-
-pub none_passed : (from : ℕ) → 0 < 256 ^ (from - from)
-none_passed from = let e : 0 ≡ from - from = omega arith in subst (λ (k : ℕ). 0 < 256 ^ k) e (lit< tt)
-
-pub one_passed : (from i x : ℕ) → from ≤ i → x < 256 ^ (i - from + 1) → x < 256 ^ (i + 1 - from)
-one_passed from i x h l = let e : i - from + 1 ≡ i + 1 - from = omega arith in subst (λ (k : ℕ). x < 256 ^ k) e l

@@ -260,7 +260,7 @@ module _ (bs : Bytes) (at : ℕ) where
 
 -- ---- for callers
 
--- what an answer of this shape says of the head; f is `item_is at` or `argument_is k at`
+-- an answer that is known says what the call answers; f is what an answer says, such as `answer_is head_is`
 pub answered : {A : Type 0} {m : Res Head} (f : A → Res Head) {r x : A} → f r ≡ m → r ≡ x → f x ≡ m
 answered f e g = ap f (sym g) ∙ e
 

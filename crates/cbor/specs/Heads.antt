@@ -7,11 +7,8 @@ use Rattle.rules.specs.Model as Model
 use Rattle.cbor.specs.declared.Kind.{Kind}
 use Rattle.cbor.specs.declared.Kind.TheVariants as KindV
 use Rattle.cbor.specs.declared.Kinds.{Kinds}
-use Rattle.cbor.specs.declared.Item.{Item}
-use Rattle.cbor.specs.declared.Item.TheVariants as ItemV
+use Rattle.cbor.specs.declared.Head.{Head}
 use Rattle.cbor.specs.declared.Span.{Span}
-use Rattle.cbor.specs.declared.Argument.{Argument}
-use Rattle.cbor.specs.declared.Argument.TheVariants as ArgumentV
 
 abbrev pub kind_is : Kind → H.Kind
 kind_is KindV.Number = H.Number
@@ -38,25 +35,13 @@ allows a H.Other = false
 abbrev pub accepted : H.Kind → ℕ → ℕ → Res H.Head
 accepted k v next = ok (record { kind = k; value = v; next = next })
 
--- the answer at a position: true is head information 21, null 22, and a refusal's place is the head's
-abbrev pub item_is : ℕ → Item → Res H.Head
-item_is at (ItemV.Number v next) = accepted H.Number v next
-item_is at (ItemV.Negative v next) = accepted H.Negative v next
-item_is at (ItemV.ByteString v next) = accepted H.ByteString v next
-item_is at (ItemV.Text v next) = accepted H.Text v next
-item_is at (ItemV.Array v next) = accepted H.Array v next
-item_is at (ItemV.True next) = accepted H.True 21 next
-item_is at (ItemV.Null next) = accepted H.Null 22 next
-item_is at (ItemV.Refused n) = refused n at
+-- what was read of a head
+abbrev pub head_is : Head → H.Head
+head_is h = record { kind = kind_is h.kind; value = h.value; next = h.next }
 
 -- where content stands
 abbrev pub span_is : Span → Model.Span
 span_is s = record { start = s.start; length = s.length }
-
--- the number of a head of this kind, at a position
-abbrev pub argument_is : H.Kind → ℕ → Argument → Res H.Head
-argument_is k at (ArgumentV.Is v next) = accepted k v next
-argument_is k at (ArgumentV.Refused n) = refused n at
 
 -- the least number that needs a head with the head information i, 24 to 27
 unfoldable pub least_of : ℕ → ℕ

@@ -3,15 +3,16 @@
 
 ghost use Rattle.std.specs.Prelude.{◌≡◌, ℕ, ◌+◌, ◌<◌, ◌≤◌, length};
 ghost use Rattle.rules.specs.Bytes.{part, number_from};
-ghost use Rattle.rules.specs.Head.{Kind as RulesKind, kind_of, width, read_head, Fits};
+ghost use Rattle.rules.specs.Head.{kind_of, is, width, read_head};
 ghost use Rattle.rules.specs.Reader.{span_at};
 ghost use Rattle.rules.specs.Standing.{ItemStands};
-ghost use Rattle.cbor.specs.Heads.{kind_is, allows, item_is, span_is, accepted, argument_is, least_of, read_argument};
+ghost use Rattle.refusals.specs.Answers.{answer_is};
+ghost use Rattle.cbor.specs.Heads.{kind_is, allows, head_is, span_is, least_of, read_argument};
 
-use numbers::{CUT, FORM, HEAD};
+use refusals::{Refusal, refuse};
 
 // What an item is, by its first byte.
-#[derive(Clone, Copy)]
+#[derive(Clone, Copy, Debug, PartialEq, Eq)]
 pub enum Kind {
     Number,
     Negative,
@@ -24,7 +25,7 @@ pub enum Kind {
 }
 
 // Which kinds are allowed at a place; `yes` is true.
-#[derive(Clone, Copy)]
+#[derive(Clone, Copy, Debug, PartialEq, Eq)]
 pub struct Kinds {
     pub number: bool,
     pub negative: bool,
@@ -35,28 +36,22 @@ pub struct Kinds {
     pub null: bool,
 }
 
-// An item's head and the position after it; or a refusal's number.
-#[derive(Clone, Copy)]
-pub enum Item {
-    // The value.
-    Number { value: u64, next: usize },
-    // n of the number -1 - n.
-    Negative { value: u64, next: usize },
-    // The length of the content.
-    ByteString { length: u64, next: usize },
-    Text { length: u64, next: usize },
-    // How many items the array has.
-    Array { count: u64, next: usize },
-    True(usize),
-    Null(usize),
-    Refused(u8),
+// What was read of an item's head, and the position after it. The value is that of a number; n of the number -1 - n; the length of a byte string or
+// a text; the count of an array; 21 of true and 22 of null.
+#[derive(Clone, Copy, Debug, PartialEq, Eq)]
+pub struct Head {
+    pub kind: Kind,
+    pub value: u64,
+    pub next: usize,
 }
 
-// A head's number and the position after the head; or a refusal's number.
-#[derive(Drop)]
-enum Argument {
-    Is { value: u64, next: usize },
-    Refused(u8),
+impl Head {
+    // Whether the item is of this kind.
+    pub fn is(self, kind: Kind) -> bool
+        ensures { result ≡ is (kind_is kind) (kind_is self.kind) }
+    {
+        self.kind == kind
+    }
 }
 
 // The kind that a first byte above those of arrays gives.
@@ -101,17 +96,14 @@ fn is_allowed(allowed: Kinds, kind: Kind) -> bool
     }
 }
 
-// The number of w bytes from a position on, at most 8, the highest first.
-fn number_at(s: &[u8], from: usize, w: usize) -> u64
-    requires { (from + w ≤ length s.now) × (w ≤ 8) }
-    ensures { result ≡ number_from 0 (part s.now from w) }
+// The number of at most 8 bytes, the highest first.
+fn number_of(bytes: &[u8]) -> u64
+    requires { length bytes.now ≤ 8 }
+    ensures { result ≡ number_from 0 bytes.now }
 {
-    let end = from + w;
-    let mut i = from;
-    let mut v: u64 = 0;
-    while i < end {
-        v = v * 256 + (s[i] as u64);
-        i += 1;
+    let mut v = 0;
+    for b in bytes {
+        v = v * 256 + u64::from(*b);
     }
     v
 }
@@ -142,82 +134,74 @@ fn least_of(info: u8) -> u64
     }
 }
 
-// The number that stands after the first byte of the head at a position.
-fn long_at(s: &[u8], at: usize, info: u8) -> Argument
+// The head at a position, whose number stands after its first byte.
+fn long_at(s: &[u8], at: usize, kind: Kind, info: u8) -> Result<Head, Refusal>
     requires { (at < length s.now) × (24 ≤ info) × (info < 28) }
-    ensures { (k : RulesKind) → argument_is k at result ≡ read_argument k info s.now at }
+    ensures { answer_is head_is result ≡ read_argument (kind_is kind) info s.now at }
 {
     let from = at + 1;
     let w = width_of(info);
     if s.len() - from < w {
-        return Argument::Refused(CUT);
+        refuse!(Cut, at);
     }
-    let v = number_at(s, from, w);
-    if v < least_of(info) {
-        return Argument::Refused(HEAD);
+    let value = number_of(&s[from..from + w]);
+    if value < least_of(info) {
+        refuse!(Head, at);
     }
-    Argument::Is {
-        value: v,
+    Ok(Head {
+        kind,
+        value,
         next: from + w,
-    }
+    })
 }
 
-// The number of the head at a position, by its head information: the lowest five bits of the first byte.
-fn argument_at(s: &[u8], at: usize, info: u8) -> Argument
+// The head at a position, by its head information: the lowest five bits of the first byte.
+fn argument_at(s: &[u8], at: usize, kind: Kind, info: u8) -> Result<Head, Refusal>
     requires { at < length s.now }
-    ensures { (k : RulesKind) → argument_is k at result ≡ read_argument k info s.now at }
+    ensures { answer_is head_is result ≡ read_argument (kind_is kind) info s.now at }
 {
     match info {
-        0..=23 => Argument::Is {
+        0..=23 => Ok(Head {
+            kind,
             value: info as u64,
             next: at + 1,
-        },
-        24..=27 => long_at(s, at, info),
-        28..=31 | _ => Argument::Refused(HEAD),
-    }
-}
-
-// The answer on a head that is accepted.
-fn item_of(kind: Kind, v: u64, next: usize) -> Item
-    requires { Fits (kind_is kind) v }
-    ensures { (at : ℕ) → item_is at result ≡ accepted (kind_is kind) v next }
-{
-    match kind {
-        Kind::Number => Item::Number { value: v, next },
-        Kind::Negative => Item::Negative { value: v, next },
-        Kind::ByteString => Item::ByteString { length: v, next },
-        Kind::Text => Item::Text { length: v, next },
-        Kind::Array => Item::Array { count: v, next },
-        Kind::True => Item::True(next),
-        Kind::Null => Item::Null(next),
-        Kind::Other => Item::Refused(FORM),
+        }),
+        24..=27 => long_at(s, at, kind, info),
+        28..=31 | _ => refuse!(Head, at),
     }
 }
 
 // The head of the item at a position, where these kinds are allowed.
-pub fn item_at(s: &[u8], at: usize, allowed: Kinds) -> Item
-    ensures { item_is at result ≡ read_head (allows allowed) s.now at }
+pub fn head_at(s: &[u8], at: usize, allowed: Kinds) -> Result<Head, Refusal>
+    ensures { answer_is head_is result ≡ read_head (allows allowed) s.now at }
 {
     if s.len() <= at {
-        return Item::Refused(CUT);
+        refuse!(Cut, at);
     }
     let b = s[at];
     let kind = kind_of(b);
-    if is_allowed(allowed, kind) {
-        match argument_at(s, at, b % 32) {
-            Argument::Is { value: v, next } => item_of(kind, v, next),
-            Argument::Refused(n) => Item::Refused(n),
-        }
-    } else {
-        Item::Refused(FORM)
+    if !is_allowed(allowed, kind) {
+        refuse!(Form, at);
     }
+    argument_at(s, at, kind, b % 32)
 }
 
 // Where the content of an item stands.
-#[derive(Clone, Copy)]
+#[derive(Clone, Copy, Debug, PartialEq, Eq)]
 pub struct Span {
     pub start: usize,
     pub length: usize,
+}
+
+impl Span {
+    // The bytes that stand there.
+    pub fn of(self, s: &[u8]) -> &[u8]
+        requires { self.start + self.length ≤ length s.now }
+        ensures shows { result.now ≡ part s.now self.start self.length }
+        ensures points { result.ref_ptr ≡ (s.entry.ref_ptr.0, self.start + s.entry.ref_ptr.1) }
+    {
+        &s[self.start..self.start + self.length]
+    }
 }
 
 // Where the content of an item that was accepted stands.
@@ -240,7 +224,7 @@ pub fn span_at(s: &[u8], at: usize) -> Span
         };
     }
     let w = width_of(info);
-    let v = number_at(s, from, w);
+    let v = number_of(&s[from..from + w]);
     Span {
         start: from + w,
         length: v as usize,

@@ -1,41 +1,42 @@
 -- A walk over items that stand in a row.
-use Prim.Native.Nat.{ℕ, zero, suc, ◌+◌, ◌-◌, ◌≤◌, ◌<◌}
-use native.Mathlib.Omega.{arith}
-use native.Mathlib.Numerals.{sub-one}
-use mathlib.Core.Path.{◌≡◌, sym, ap, subst}
+use Prim.Native.Nat.{ℕ, ◌+◌, ◌≤◌}
+use mathlib.Core.Path.{◌≡◌, sym, ap, subst, ◌∙◌}
+use mathlib.Core.List.{List, [], ◌∷◌}
 use lib.ListN.{length}
 use Rattle.rules.specs.Bytes.{Bytes}
-use Rattle.rules.specs.Model as Model
-use Rattle.rules.specs.Reader.{span_at, end_at}
-use Rattle.rules.specs.Standing.{ItemStands, RowAt}
-use Rattle.cbor.specs.declared.Span.{Span}
-use Rattle.cbor.specs.Heads.{span_is}
+use Rattle.rules.specs.Model.{Span}
+use Rattle.rules.specs.Reader.{span_at, spans}
+use Rattle.rules.specs.Standing.{RowAt}
+use Rattle.rules.proofs.Texts.{length_spans}
 use Rattle.cbor_rows.specs.Rows.{nth_at}
 
--- a walk over n items from a position on: it has come to `next`, and `left` items are left to pass
-pub record Walked (bs : Bytes) (at n next left : ℕ) : Type 0 where
-  pub stand : RowAt bs next left
-  pub rest : nth_at bs next left ≡ nth_at bs at n
+-- a walk over n items from a position on: it has come to `next`, and these spans are left to pass
+pub record Walked (bs : Bytes) (at n next : ℕ) (left : List Span) : Type 0 where
+  pub are : left ≡ spans bs next (length left)
+  pub stand : RowAt bs next (length left)
+  pub rest : nth_at bs next (length left) ≡ nth_at bs at n
 
-module _ {bs : Bytes} {at n next : ℕ} where
-  pub walk_here : (left : ℕ) → Walked bs at n next left → 0 < left → ItemStands bs next
-  walk_here zero w h = absurd (omega arith)
-  walk_here (suc left) w h = w.stand.0
+pub walk_whole : {bs : Bytes} {at n : ℕ} {left : List Span} → left ≡ spans bs at n → RowAt bs at n → Walked bs at n at left
+walk_whole {bs} {at} {n} e h =
+    let c = sym (ap length e ∙ length_spans bs at n) in
+    record { are = e ∙ ap (spans bs at) c; stand = subst (RowAt bs at) c h; rest = ap (nth_at bs at) (sym c) }
 
-  pub walk_inside : {left : ℕ} → Walked bs at n next left → 0 < left → (span : Span) → span_is span ≡ span_at bs next → span.start + span.length ≤ length bs
-  walk_inside {left} w h span e = subst (λ (s : Model.Span). s.start + s.length ≤ length bs) (sym e) (walk_here left w h).inside
+-- the first item is passed
+pub record Passed (bs : Bytes) (at n : ℕ) (span : Span) (others : List Span) : Type 0 where
+  pub inside : span.start + span.length ≤ length bs
+  pub walked : Walked bs at n (span.start + span.length) others
 
-  -- the first item is passed
-  passed : (left : ℕ) → Walked bs at n next left → 0 < left → Walked bs at n (end_at bs next) (left - 1)
-  unfolding nth_at
-  passed zero w h = absurd (omega arith)
-  passed (suc left) w h = simp sub-one (record { stand = w.stand.1; rest = w.rest })
+first_passed : {bs : Bytes} {at n next : ℕ} {span : Span} {others : List Span} → Walked bs at n next (span ∷ others) → Passed bs at n span others
+unfolding spans nth_at
+first_passed {bs} {at} {n} {next} {span} {others} w =
+    let e : span_at bs next ≡ span = cc w.are in
+    subst (λ (s : Span). Passed bs at n s others) e
+    (record { inside = w.stand.0.inside; walked = record { are = cc w.are; stand = w.stand.1; rest = w.rest } })
 
-  pub walk_step : {left : ℕ} → Walked bs at n next left → 0 < left → (span : Span) → span_is span ≡ span_at bs next → Walked bs at n (span.start + span.length) (left - 1)
-  walk_step {left} w h span e =
-      subst (λ (p : ℕ). Walked bs at n p (left - 1)) (ap (λ (s : Model.Span). s.start + s.length) (sym e)) (passed left w h)
+pub walk_step : {bs : Bytes} {at n next : ℕ} {left : List Span} {span : Span} {others : List Span} → Walked bs at n next left → left ≡ span ∷ others
+    → Passed bs at n span others
+walk_step {bs} {at} {n} {next} w e = first_passed (subst (Walked bs at n next) e w)
 
-  pub walk_end : (left : ℕ) → Walked bs at n next left → left ≤ 0 → next ≡ nth_at bs at n
-  unfolding nth_at
-  walk_end zero w h = w.rest
-  walk_end (suc left) w h = absurd (omega arith)
+pub walk_end : {bs : Bytes} {at n next : ℕ} {left : List Span} → Walked bs at n next left → left ≡ [] → next ≡ nth_at bs at n
+unfolding nth_at
+walk_end {bs} {at} {n} {next} w e = (subst (Walked bs at n next) e w).rest

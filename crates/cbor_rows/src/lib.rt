@@ -1,11 +1,102 @@
 // Items that stand in a row.
 #![tactic(auto)]
 
-ghost use Rattle.std.specs.Prelude.{◌≡◌};
+ghost use Rattle.std.specs.Prelude.{◌≡◌, All, List, map};
+ghost use Rattle.std.specs.Iterator.{YieldsFirstBy, YieldsFirstRef, item_count};
+ghost use Rattle.rules.specs.Bytes.{Bytes};
+ghost use Rattle.rules.specs.Model.{Span};
+ghost use Rattle.rules.specs.Reader.{spans, taken, contents};
 ghost use Rattle.rules.specs.Standing.{RowAt};
-ghost use Rattle.cbor_rows.specs.Rows.{nth_at};
+ghost use Rattle.cbor.specs.Heads.{span_is};
+ghost use Rattle.cbor_rows.specs.Rows.{nth_at, SpanInside};
 
-use cbor::span_at;
+use cbor::{Span, span_at};
+use std::marker::Model;
+
+// Where the contents of items that stand in a row are: of those that are left.
+#[derive(Drop)]
+pub struct Spans<'a> {
+    link: &'a [u8],
+    at: usize,
+    left: usize,
+}
+
+impl<'a> Model for Spans<'a> {
+    ghost Value = { List Span };
+
+    ghost view = { λ r. spans r.link.now r.at r.left };
+
+    ghost invariant = { λ r. RowAt r.link.now r.at r.left };
+}
+
+impl<'a> Iterator for Spans<'a> {
+    type Item = Span;
+
+    ghost next_gives = { YieldsFirstBy span_is (λ spans. spans) };
+
+    ghost remaining = { item_count (λ spans. spans) };
+
+    fn next(&mut self) -> Option<Span> {
+        if self.left == 0 {
+            return None;
+        }
+        let span = span_at(self.link, self.at);
+        self.at = span.start + span.length;
+        self.left -= 1;
+        Some(span)
+    }
+}
+
+// Where the contents of the items are that stand in a row from a position on.
+pub fn spans_at(s: &[u8], at: usize, count: usize) -> Spans<'_>
+    requires { RowAt s.now at count }
+    ensures { result ≡ spans s.now at count }
+{
+    Spans {
+        link: s,
+        at,
+        left: count,
+    }
+}
+
+// The contents of items that stand in a row: of those that are left.
+#[derive(Drop)]
+pub struct Texts<'a> {
+    link: &'a [u8],
+    spans: Spans<'a>,
+}
+
+impl<'a> Model for Texts<'a> {
+    ghost Value = { List Bytes };
+
+    ghost view = { λ r. map (taken r.link.now) r.spans };
+
+    ghost invariant = { λ r. All (SpanInside r.link.now) r.spans };
+}
+
+impl<'a> Iterator for Texts<'a> {
+    type Item = &'a [u8];
+
+    ghost next_gives = { YieldsFirstRef (λ texts. texts) };
+
+    ghost remaining = { item_count (λ texts. texts) };
+
+    fn next(&mut self) -> Option<&'a [u8]> {
+        let span = self.spans.next()?;
+        Some(span.of(self.link))
+    }
+}
+
+// The contents of the items that stand in a row from a position on.
+pub fn texts_at(s: &[u8], at: usize, count: usize) -> Texts<'_>
+    requires { RowAt s.now at count }
+    ensures { result ≡ contents s.now at count }
+{
+    Texts {
+        link: s,
+        spans: spans_at(s, at, count),
+    }
+}
 
 // The position after the first n items of those that stand in a row from a position on.
 pub fn after(s: &[u8], at: usize, n: usize) -> usize
@@ -13,11 +104,8 @@ pub fn after(s: &[u8], at: usize, n: usize) -> usize
     ensures { result ≡ nth_at s.now at n }
 {
     let mut next = at;
-    let mut left = n;
-    while 0 < left {
-        let span = span_at(s, next);
+    for span in spans_at(s, at, n) {
         next = span.start + span.length;
-        left -= 1;
     }
     next
 }

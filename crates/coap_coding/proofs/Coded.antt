@@ -1,7 +1,7 @@
 -- What an option is made of, and how long it is.
-use Prim.Native.Nat.{ℕ, zero, suc, ◌+◌, ◌*◌, ◌-◌, ◌≤◌, ◌<◌}
+use Prim.Native.Nat.{ℕ, min, zero, suc, ◌+◌, ◌*◌, ◌-◌, ◌≤◌, ◌<◌}
 use native.Mathlib.Omega.{arith}
-use mathlib.Core.Path.{◌≡◌, refl, ap}
+use mathlib.Core.Path.{◌≡◌}
 use mathlib.Core.List.{[], ◌∷◌, ◌++◌, append_assoc}
 use lib.ListN.{length, length-append}
 use lib.Dec.{ltb}
@@ -17,21 +17,20 @@ use Rattle.coap_coding.specs.Coded.{Small, AllSmall, coded}
 
 -- ---- a delta or a length
 
-pub nibble_low : (n : ℕ) → n < 13 → n ≡ nibble n
+pub nibble_is : (n : ℕ) → Small n → min n 13 ≡ nibble n
 unfolding nibble
-nibble_low n h = rw (lt-ltb n 13 h)
+nibble_is n s =
+    cond_split (λ (k : ℕ). min n 13 ≡ k) (ltb n 13)
+    (λ t. omega (arith, ltb-true n 13 t))
+    (λ t. rw (lt-ltb n 269 s) (omega (arith, ltb-false n 13 t)))
 
-pub nibble_high : (n : ℕ) → 13 ≤ n → Small n → 13 ≡ nibble n
-unfolding nibble
-nibble_high n h s = rw (le-ltb n 13 h, lt-ltb n 269 s)
-
-pub extension_low : (n : ℕ) → n < 13 → [] ≡ extension n
+pub extension_none : (n : ℕ) → n < 13 → extension n ≡ []
 unfolding extension
-extension_low n h = rw (lt-ltb n 13 h)
+extension_none n h = rw (lt-ltb n 13 h)
 
-pub extension_high : (n : ℕ) → 13 ≤ n → Small n → (n - 13) ∷ [] ≡ extension n
+pub extension_one : (n : ℕ) → 13 ≤ n → n < 269 → extension n ≡ (n - 13) ∷ []
 unfolding extension
-extension_high n h s = rw (le-ltb n 13 h, lt-ltb n 269 s)
+extension_one n h s = rw (le-ltb n 13 h, lt-ltb n 269 s)
 
 pub nibble_most : (n : ℕ) → Small n → nibble n ≤ 13
 unfolding nibble
@@ -47,18 +46,19 @@ extension_most n s =
     (λ t. omega arith)
     (λ t. cond_split (λ (w : Bytes). length w ≤ 1) (ltb n 269) (λ u. omega arith) (λ u. omega (arith, ltb-false n 269 u)))
 
--- ---- an option whose value has n bytes
+-- ---- one option
 
-module _ (delta n : ℕ) (v : Bytes) (e : length v ≡ n) where
-  pub option_size : length (option_bytes delta v) ≡ 1 + length (extension delta) + length (extension n) + n
-  option_size = omega (arith, option_length delta v, ap (λ (k : ℕ). length (extension k)) e)
+module _ (delta : ℕ) (v : Bytes) where
+  pub option_size : length (option_bytes delta v) ≡ 1 + length (extension delta) + length (extension (length v)) + length v
+  option_size = omega (arith, option_length delta v)
 
-  pub option_pieces : {x y : ℕ} → x ≡ nibble delta → y ≡ nibble n → ((x * 16 + y) ∷ []) ++ (extension delta ++ (extension n ++ v)) ≡ option_bytes delta v
+  pub option_pieces : {x y : ℕ} → x ≡ nibble delta → y ≡ nibble (length v)
+      → ((x * 16 + y) ∷ []) ++ (extension delta ++ (extension (length v) ++ v)) ≡ option_bytes delta v
   unfolding option_bytes
-  option_pieces p q = rw (p, q, e, append_assoc)
+  option_pieces p q = rw (p, q, append_assoc)
 
-  pub option_most : Small delta → Small n → length (option_bytes delta v) ≤ 3 + n
-  option_most d s = omega (arith, option_size, extension_most delta d, extension_most n s)
+  pub option_most : Small delta → Small (length v) → length (option_bytes delta v) ≤ 3 + length v
+  option_most d s = omega (arith, option_size, extension_most delta d, extension_most (length v) s)
 
 -- ---- options of items in a row
 
@@ -71,7 +71,7 @@ coded_most delta bs at (suc n) d i s =
     omega (
       arith,
       length-append (option_bytes delta t) (coded 0 (contents bs (end_at bs at) n)),
-      option_most delta (length t) t refl d s.0,
+      option_most delta t d s.0,
       length_part bs (head_at bs at).next (head_at bs at).value i.0.inside,
       coded_most 0 bs (end_at bs at) n (omega arith) i.1 s.1,
     )

@@ -2,7 +2,6 @@
 #![tactic(auto)]
 
 ghost use Rattle.std.specs.Prelude.{◌+◌, ◌<◌, ◌≤◌, ◌≡◌, length};
-ghost use Rattle.rules.specs.Bytes.{Bytes, part};
 ghost use Rattle.rules.specs.Model.{limits};
 ghost use Rattle.rules.specs.Options.{nibble, extension, option_bytes};
 ghost use Rattle.rules.specs.Reader.{contents};
@@ -10,34 +9,31 @@ ghost use Rattle.rules.specs.Standing.{RowAt};
 ghost use Rattle.put.specs.Wrote.{Wrote};
 ghost use Rattle.coap_coding.specs.Coded.{Small, AllSmall, coded};
 
-use cbor::span_at;
-use put::{put_byte, put_part};
+use cbor_rows::texts_at;
+use put::{put_byte, put_bytes};
 
 // ---- a delta or a length below 269: its nibble, and the byte that follows from 13 on
 
 // The nibble.
+#[tactic(auto, using(crate::proofs::Coded::nibble_is))]
 fn nibble_of(n: usize) -> u8
     requires { Small n }
     ensures { result ≡ nibble n }
 {
-    if n < 13 {
-        return n as u8;
-    }
-    13
+    n.min(13) as u8
 }
 
 // How many bytes follow.
+#[tactic(auto, using(crate::proofs::Coded::extension_none, crate::proofs::Coded::extension_one))]
 fn extension_length(n: usize) -> usize
     requires { Small n }
     ensures { result ≡ length (extension n) }
 {
-    if n < 13 {
-        return 0;
-    }
-    1
+    if n < 13 { 0 } else { 1 }
 }
 
 // The bytes that follow.
+#[tactic(auto, using(crate::proofs::Coded::extension_none, crate::proofs::Coded::extension_one, put::proofs::Wrote::wrote_none))]
 fn put_extension(room: &mut [u8], at: usize, n: usize) -> usize
     requires small { Small n }
     requires n_in_bounds { at + length (extension n) ≤ length room.old }
@@ -51,32 +47,28 @@ fn put_extension(room: &mut [u8], at: usize, n: usize) -> usize
 
 // ---- one option
 
-// How long an option is whose value has n bytes.
-pub fn option_length(delta: usize, n: usize) -> usize
-    requires { Small delta × Small n }
-    ensures { (value : Bytes) → length value ≡ n → result ≡ length (option_bytes delta value) }
+// How long an option is.
+#[tactic(auto, using(crate::proofs::Coded::extension_most, crate::proofs::Coded::option_size))]
+pub fn option_length(delta: usize, value: &[u8]) -> usize
+    requires { Small delta × Small (length value.now) }
+    ensures { result ≡ length (option_bytes delta value.now) }
 {
+    let n = value.len();
     1 + extension_length(delta) + extension_length(n) + n
 }
 
-// An option: the nibbles, what follows each, and the value, n bytes of src from a position on.
-pub fn put_option(
-    room: &mut [u8],
-    at: usize,
-    delta: usize,
-    src: &[u8],
-    from: usize,
-    n: usize,
-) -> usize
-    requires small { Small delta × Small n }
-    requires n_in_bounds { from + n ≤ length src.now }
-    requires room_enough { at + length (option_bytes delta (part src.now from n)) ≤ length room.old }
-    ensures { Wrote room.old at (option_bytes delta (part src.now from n)) room.new result }
+// An option: the nibbles, what follows each, and the value.
+#[tactic(auto, using(crate::proofs::Coded::nibble_most, crate::proofs::Coded::option_size, put::proofs::Wrote::wrote_length))]
+pub fn put_option(room: &mut [u8], at: usize, delta: usize, value: &[u8]) -> usize
+    requires small { Small delta × Small (length value.now) }
+    requires room_enough { at + length (option_bytes delta value.now) ≤ length room.old }
+    ensures { Wrote room.old at (option_bytes delta value.now) room.new result }
 {
+    let n = value.len();
     let p = put_byte(room, at, nibble_of(delta) * 16 + nibble_of(n));
     let q = put_extension(room, p, delta);
     let r = put_extension(room, q, n);
-    put_part(room, r, src, from, n)
+    put_bytes(room, r, value)
 }
 
 // ---- texts in a row, each the value of an option: the first with a delta, the others with 0
@@ -87,16 +79,11 @@ pub fn row_length(s: &[u8], at: usize, count: usize, delta: usize) -> usize
     requires link_size { (length s.now ≤ limits.bytes) × Small delta }
     ensures { result ≡ length (coded delta (contents s.now at count)) }
 {
-    let mut next = at;
-    let mut left = count;
     let mut difference = delta;
-    let mut total: usize = 0;
-    while 0 < left {
-        let span = span_at(s, next);
-        total += option_length(difference, span.length);
-        next = span.start + span.length;
+    let mut total = 0;
+    for text in texts_at(s, at, count) {
+        total += option_length(difference, text);
         difference = 0;
-        left -= 1;
     }
     total
 }
@@ -115,16 +102,11 @@ pub fn put_row(
     requires count_in_bounds { at + length (coded delta (contents s.now from count)) ≤ length room.old }
     ensures { Wrote room.old at (coded delta (contents s.now from count)) room.new result }
 {
-    let mut next = from;
-    let mut left = count;
     let mut difference = delta;
     let mut o = at;
-    while 0 < left {
-        let span = span_at(s, next);
-        o = put_option(room, o, difference, s, span.start, span.length);
-        next = span.start + span.length;
+    for text in texts_at(s, from, count) {
+        o = put_option(room, o, difference, text);
         difference = 0;
-        left -= 1;
     }
     o
 }

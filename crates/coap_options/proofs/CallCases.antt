@@ -1,6 +1,9 @@
 -- What the call answers, by what was found; and what is known of the positions in an accepted input.
 use Prim.Native.Nat.{ℕ, ◌≤◌}
 use native.Mathlib.Omega.{arith}
+use Rattle.std.specs.Prelude as Code
+use Rattle.std.specs.Prelude.{is_some}
+use Rattle.std.specs.Option.{unwrap_or}
 use mathlib.Core.Path.{◌≡◌, refl, sym, ap, ◌∙◌}
 use mathlib.Core.Bool.{true, false}
 use mathlib.Core.Option.{Option, none, some, get_or, map}
@@ -15,17 +18,23 @@ use Rattle.rules.specs.Valid.{If, GoodTexts, GoodHost, GoodOpening}
 use Rattle.rules.specs.Options.{options, options_from, coap_scheme}
 use Rattle.rules.specs.Calls.{absent, options_call}
 use Rattle.rules.specs.Standing.{HostStands, OpeningStands, TextsStand}
-use Rattle.rules.proofs.Tools.{each_map, within_low}
+use Rattle.rules.proofs.Tools.{each_map, never}
 use Rattle.rules.proofs.Steps.{ok_at, bind_ok}
-use Rattle.rules.proofs.Texts.{length_contents}
 use Rattle.rules.proofs.Reading.{meaning_said, canonical}
 use Rattle.rules.proofs.Standing.{read_size, stands}
 use Rattle.rules.proofs.Absolutes.{read_absolute_lem}
 use Rattle.rules.proofs.OptionsBack.{address_short, labels_short, good_short}
 use Rattle.addresses.proofs.AddressTexts.{address_at_lem}
 use Rattle.schemes.specs.Schemes.{default_port}
+use Rattle.cbor.specs.declared.Span.{Span}
+use Rattle.reader.specs.declared.Scheme as SchemeV
+use Rattle.reader.specs.declared.Scheme.TheVariants as SchemeTV
+use Rattle.reader.specs.declared.AuthorityAt as AuthorityV
+use Rattle.reader.specs.declared.OpeningAt as OpeningT
+use Rattle.reader.specs.declared.OpeningAt.TheVariants as OpeningV
+use Rattle.reader.specs.Answers.{text_of, port_of, opening_of}
 use Rattle.coap_values.specs.Values.{HostAsks, TextsAsk}
-use Rattle.coap_options.specs.Requests.{options_at, default_answer, number_answer, opening_answer, AuthorityAsks, OpeningAsks, Asks}
+use Rattle.coap_options.specs.Requests.{options_at, default_answer, opening_answer, AuthorityAsks, OpeningAsks, Asks}
 
 -- ---- what the call answers
 
@@ -72,35 +81,40 @@ module _ (bs to_address : Bytes) (to_port : ℕ) where
       ∙ opening_answered f.opening f.path f.query f.fragment
 
 -- on what was found, case by case
-module _ {m : Option ℕ} (g : Slot) (w : ℕ → Bytes) where
-  pub default_none : m ≡ none → default_answer m g w ≡ refused COAP 0
+module _ {m : Option ℕ} (w : ℕ → Bytes) where
+  pub default_none : (g : Slot) → none ≡ m → default_answer m g w ≡ refused COAP 0
   unfolding default_answer
-  default_none e = rw e
+  default_none g e = rw (← e)
 
-  pub default_fragment : {d at n : ℕ} → m ≡ some d → g ≡ set at n → default_answer m g w ≡ refused COAP 0
-  unfolding default_answer
-  default_fragment e f = rw (e, f)
+  module _ {d : ℕ} (e : some d ≡ m) where
+    pub default_fragment : (g : Code.Option Span) → is_some g ≡ true → default_answer m (text_of g) w ≡ refused COAP 0
+    unfolding default_answer
+    default_fragment Code.None f = never f
+    default_fragment (Code.Some s) f = rw (← e)
 
-  pub default_some : {d : ℕ} → m ≡ some d → g ≡ unset → default_answer m g w ≡ ok (w d)
-  unfolding default_answer
-  default_some e f = rw (e, f)
+    pub default_some : (g : Code.Option Span) → is_some g ≡ false → ok (w d) ≡ default_answer m (text_of g) w
+    unfolding default_answer
+    default_some Code.None f = rw (← e)
+    default_some (Code.Some s) f = never (sym f)
 
-module _ (bs : Bytes) (f : Found) (to_address : Bytes) (to_port : ℕ) {o : OpeningAt} where
-  pub answers_discard : {k : ℕ} → o ≡ discard_at k → opening_answer bs o f to_address to_port ≡ refused BASE 0
-  answers_discard e = rw e
+-- the port, or else the default
+pub port_or : (p : Code.Option ℕ) (d : ℕ) → unwrap_or p d ≡ get_or (port_of p) d
+port_or Code.None d = refl
+port_or (Code.Some p) d = refl
 
-  pub answers_all : o ≡ discard_all_at → opening_answer bs o f to_address to_port ≡ refused BASE 0
-  answers_all e = rw e
+module _ (bs : Bytes) (f : Found) (to_address : Bytes) (to_port : ℕ) where
+  pub answers_discard : (o : OpeningT.OpeningAt) → ((s : Code.Option SchemeV.Scheme) (a : AuthorityV.AuthorityAt) → o ≡ OpeningV.Full s a → ⊥)
+      → opening_answer bs (opening_of o) f to_address to_port ≡ refused BASE 0
+  answers_discard (OpeningV.Discard k) h = refl
+  answers_discard OpeningV.DiscardAll h = refl
+  answers_discard (OpeningV.Full s a) h = absurd (h s a refl)
 
-  module _ {s : SchemeAt} {a : AuthorityAt} (e : o ≡ full_at s a) where
-    pub answers_none : s ≡ no_scheme → opening_answer bs o f to_address to_port ≡ refused BASE 0
+  module _ {o : OpeningT.OpeningAt} {s : Code.Option SchemeV.Scheme} {a : AuthorityV.AuthorityAt} (e : o ≡ OpeningV.Full s a) where
+    pub answers_none : s ≡ Code.None → opening_answer bs (opening_of o) f to_address to_port ≡ refused BASE 0
     answers_none d = rw (e, d)
 
-    pub answers_number : {n : ℕ} → s ≡ number_at n → opening_answer bs o f to_address to_port ≡ number_answer bs n a f to_address to_port
-    answers_number d = rw (e, d)
-
-    pub answers_name : {at n : ℕ} → s ≡ name_at at n → opening_answer bs o f to_address to_port ≡ refused COAP 0
-    answers_name d = rw (e, d)
+    pub answers_name : {x : SchemeV.Scheme} {n : Span} → s ≡ Code.Some x → x ≡ SchemeTV.Name n → opening_answer bs (opening_of o) f to_address to_port ≡ refused COAP 0
+    answers_name d i = rw (e, d, i)
 
 -- ---- what is known of the positions
 
@@ -111,7 +125,7 @@ module _ (bs : Bytes) where
   host_asks : (h : HostAt) → HostStands bs h → GoodHost (said_host bs h) → HostAsks bs h
   host_asks (address_at at n) h g = (address_at_lem bs at n h g, (address_short _ g).size)
   host_asks (labels_at at n) h g =
-      ((h.each, omega (arith, within_low 1 8 (length (contents bs at n)) g.texts.count, length_contents bs at n)), (labels_short (contents bs at n) g.texts.each g.name).size)
+      (h.each, (labels_short (contents bs at n) g.texts.each g.name).size)
 
   opening_asks : (o : OpeningAt) → OpeningStands bs o → GoodOpening (said_opening bs o) → OpeningAsks bs o
   opening_asks (discard_at k) h g = tt

@@ -2,27 +2,28 @@
 use Prim.Native.Nat.{ℕ, ◌+◌, ◌-◌, ◌≤◌}
 use native.Mathlib.Nat.{sub_self}
 use native.Mathlib.Omega.{arith}
+use Rattle.std.specs.Prelude as Code
+use Rattle.std.specs.Prelude.{is_some}
+use Rattle.std.specs.Borrow.{Bor}
 use mathlib.Core.Path.{◌≡◌, refl, sym, ap, ◌∙◌}
 use mathlib.Core.Bool.{Bool, true, false, cond}
 use mathlib.Core.List.{List, [], ◌∷◌, ◌++◌, map, append_assoc, append-nil}
 use mathlib.Core.Option.{Option, none, some}
-use lib.ListN.{length, replicate, length-replicate, length-append}
+use lib.ListN.{length, length-append}
 use lib.Dec.{ltb, eqb}
 use borrow.Author.Tests.{lt-ltb}
-use Rattle.rules.specs.Bytes.{Bytes, part, same}
+use Rattle.rules.specs.Bytes.{Bytes, same}
 use Rattle.rules.specs.Model.{Host, address, labels, elements, normal_path}
 use Rattle.rules.specs.Address.{address_text}
 use Rattle.rules.specs.Options.{CoapOption, option, uri_host, port_bytes, uri_port, option_bytes, options_from}
 use Rattle.rules.specs.Reader.{contents, Slot, HostAt}
 use Rattle.rules.specs.Meaning.{said_texts, said_host}
-use Rattle.rules.proofs.Tools.{by_test, length_part}
+use Rattle.rules.proofs.Tools.{by_test}
 use Rattle.rules.proofs.Texts.{length_contents}
 use Rattle.coap_coding.specs.Coded.{Small, coded}
 use Rattle.coap_coding.proofs.Coded.{option_most}
-use Rattle.coap_values.specs.Values.{host_value, port_value, value_in, Inside, SmallValue, Valued, RowOf}
-use Rattle.coap_values.specs.declared.Value.{Value}
-use Rattle.coap_values.specs.declared.Value.TheVariants as ValueV
-use Rattle.coap_options.specs.Requests.{options_at, value_coded, number_after, is_set, DeltasAre, pieces_at, Stands, DeltasSmall}
+use Rattle.coap_values.specs.Values.{host_value, port_value, value_is, SmallValue, RowOf}
+use Rattle.coap_options.specs.Requests.{options_at, value_coded, number_after, DeltasAre, pieces_at, Stands, DeltasSmall}
 use Rattle.coap_options.specs.declared.Request.{Request}
 use Rattle.coap_options.specs.declared.Deltas.{Deltas}
 
@@ -48,32 +49,18 @@ deltas_small i = record { port = omega arith; path = omega arith; query = omega 
 
 -- ---- an option that is set or not
 
-pub value_none : (d : ℕ) (src : Bytes) {v : Value} → v ≡ ValueV.Unset → [] ≡ value_coded d (value_in src v)
-value_none d src e = rw e
-
-pub value_some : (d : ℕ) (src : Bytes) {v : Value} {n : ℕ} → v ≡ ValueV.Is n → option_bytes d (part src 0 n) ≡ value_coded d (value_in src v)
-value_some d src e = rw e
-
-pub value_size : (d : ℕ) {v : Value} {n r : ℕ} → v ≡ ValueV.Is n → ((value : Bytes) → length value ≡ n → r ≡ length (option_bytes d value))
-    → (src : Bytes) → Inside src v → r ≡ length (value_coded d (value_in src v))
-value_size d {v} {n} e f src h = let i : n ≤ length src = rw e at h in f (part src 0 n) (length_part src 0 n (omega arith)) ∙ ap length (value_some d src e)
-
--- it is short
-pub value_most : (d : ℕ) (v : Value) {r : ℕ} → Small d → SmallValue v → ((src : Bytes) → Inside src v → r ≡ length (value_coded d (value_in src v))) → r ≤ 271
-value_most d ValueV.Unset s t f = omega (arith, f [] tt)
-value_most d (ValueV.Is n) s t f =
-    let src : Bytes = replicate n 0 in
-    let i : n ≤ length src = omega (arith, length-replicate {A = ℕ} n 0) in
-    omega (arith, f src i, option_most d n (part src 0 n) (length_part src 0 n (omega arith)) s t)
+pub value_most : (d : ℕ) (v : Code.Option (Bor Bytes)) → Small d → SmallValue v → length (value_coded d (value_is v)) ≤ 271
+value_most d Code.None s t = omega arith
+value_most d (Code.Some v) s t = omega (arith, option_most d v.now s t)
 
 -- ---- all of them
 
-pub pieces_sum : (host_src port_src bs : Bytes) (r : Request) (d : Deltas)
-    → length (pieces_at host_src port_src bs r d)
-    ≡ length (value_coded 3 (value_in host_src r.host)) + length (value_coded d.port (value_in port_src r.port)) + length (coded d.path (contents bs r.path.at r.path.count)) + length (coded d.query (contents bs r.query.at r.query.count))
-pieces_sum host_src port_src bs r d =
-    let h : Bytes = value_coded 3 (value_in host_src r.host) in
-    let p : Bytes = value_coded d.port (value_in port_src r.port) in
+pub pieces_sum : (bs : Bytes) (r : Request) (d : Deltas)
+    → length (pieces_at bs r d)
+    ≡ length (value_coded 3 (value_is r.host)) + length (value_coded d.port (value_is r.port)) + length (coded d.path (contents bs r.path.at r.path.count)) + length (coded d.query (contents bs r.query.at r.query.count))
+pieces_sum bs r d =
+    let h : Bytes = value_coded 3 (value_is r.host) in
+    let p : Bytes = value_coded d.port (value_is r.port) in
     let s : Bytes = coded d.path (contents bs r.path.at r.path.count) in
     let q : Bytes = coded d.query (contents bs r.query.at r.query.count) in
     omega (arith, length-append h (p ++ (s ++ q)), length-append p (s ++ q), length-append s q)
@@ -135,41 +122,38 @@ port_one : (p to_port : ℕ) → one 7 (port_value p to_port) ≡ uri_port p to_
 unfolding port_value uri_port
 port_one p to_port = by_test (λ t. one 7 (cond t none (some (port_bytes p))) ≡ cond t [] (option 7 (port_bytes p) ∷ [])) (eqb p to_port) (λ e. refl) (λ e. refl)
 
-set_present : (src : Bytes) (v : Value) → is_set v ≡ present (value_in src v)
-set_present src ValueV.Unset = refl
-set_present src (ValueV.Is n) = refl
+set_present : (v : Code.Option (Bor Bytes)) → is_some v ≡ present (value_is v)
+set_present Code.None = refl
+set_present (Code.Some v) = refl
 
 -- ---- a request whose values and texts were found
 
 -- what measuring and writing it ask, and that its pieces are w
-pub record Known (host_src port_src bs : Bytes) (r : Request) (d : Deltas) (w : Bytes) : Type 0 where
+pub record Known (bs : Bytes) (r : Request) (d : Deltas) (w : Bytes) : Type 0 where
   pub stands : Stands bs r
   pub small : DeltasSmall d
-  pub host : Inside host_src r.host
-  pub port : Inside port_src r.port
-  pub pieces : pieces_at host_src port_src bs r d ≡ w
+  pub pieces : pieces_at bs r d ≡ w
 
-module _ (host_src port_src bs : Bytes) (r : Request) (d : Deltas) (is : DeltasAre (is_set r.host) (is_set r.port) (ltb 0 r.path.count) d) where
+module _ (bs : Bytes) (r : Request) (d : Deltas) (is : DeltasAre (is_some r.host) (is_some r.port) (ltb 0 r.path.count) d) where
   pieces_from : let S = contents bs r.path.at r.path.count in let Q = contents bs r.query.at r.query.count in
-      pieces_at host_src port_src bs r d ≡ options_from 0 (one 3 (value_in host_src r.host) ++ one 7 (value_in port_src r.port) ++ map (option 11) S ++ map (option 15) Q)
+      pieces_at bs r d ≡ options_from 0 (one 3 (value_is r.host) ++ one 7 (value_is r.port) ++ map (option 11) S ++ map (option 15) Q)
   pieces_from =
       let n : r.path.count ≡ length (contents bs r.path.at r.path.count) = sym (length_contents bs r.path.at r.path.count) in
-      rw (is.port, is.path, is.query, set_present host_src r.host, set_present port_src r.port, ap (ltb 0) n)
-      (all_from (value_in host_src r.host) (value_in port_src r.port) (contents bs r.path.at r.path.count) (contents bs r.query.at r.query.count))
+      rw (is.port, is.path, is.query, set_present r.host, set_present r.port, ap (ltb 0) n)
+      (all_from (value_is r.host) (value_is r.port) (contents bs r.path.at r.path.count) (contents bs r.query.at r.query.count))
 
   module _ (host : HostAt) (port : ℕ) (path query : Slot) (to_address : Bytes) (to_port : ℕ)
-      (h : Valued host_src r.host (host_value (said_host bs host) to_address)) (p : Valued port_src r.port (port_value port to_port))
+      (h : value_is r.host ≡ host_value (said_host bs host) to_address) (h' : SmallValue r.host)
+      (p : value_is r.port ≡ port_value port to_port) (p' : SmallValue r.port)
       (s : RowOf bs r.path.at r.path.count (normal_path (elements (said_texts bs path)))) (q : RowOf bs r.query.at r.query.count (elements (said_texts bs query))) where
-    pieces_are : pieces_at host_src port_src bs r d ≡ options_at bs host port path query to_address to_port
+    pieces_are : pieces_at bs r d ≡ options_at bs host port path query to_address to_port
     unfolding options_at
-    pieces_are = pieces_from ∙ rw (h.says, p.says, s.says, q.says, host_one (said_host bs host) to_address, port_one port to_port)
+    pieces_are = pieces_from ∙ rw (h, p, s.says, q.says, host_one (said_host bs host) to_address, port_one port to_port)
 
-    pub known : Known host_src port_src bs r d (options_at bs host port path query to_address to_port)
+    pub known : Known bs r d (options_at bs host port path query to_address to_port)
     known =
         record {
-          stands = record { host = h.small; port = p.small; path = (s.stand, s.small); query = (q.stand, q.small) };
+          stands = record { host = h'; port = p'; path = (s.stand, s.small); query = (q.stand, q.small) };
           small = deltas_small is;
-          host = h.inside;
-          port = p.inside;
           pieces = pieces_are;
         }

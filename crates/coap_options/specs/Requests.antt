@@ -1,5 +1,5 @@
 -- The options of what was read, piece by piece as they are written, and what is known of where they stand in an accepted input.
-use Rattle.std.specs.Prelude.{ℕ, ◌-◌, ◌≤◌, ◌≡◌, Bool, true, false, cond, [], ◌++◌, map, length}
+use Rattle.std.specs.Prelude.{ℕ, ◌-◌, ◌≤◌, ◌≡◌, Bool, cond, [], ◌++◌, map, length}
 use Rattle.std.proofs.Math.Option.{Option, none, some, get_or}
 use Rattle.rules.specs.Bytes.{Bytes}
 use Rattle.rules.specs.Result.{Res, refused, ok, BASE, COAP}
@@ -11,9 +11,7 @@ use Rattle.rules.specs.Options.{option, uri_host, uri_port, option_bytes, option
 use Rattle.rules.specs.Standing.{RowAt}
 use Rattle.coap_coding.specs.Coded.{Small, AllSmall, coded}
 use Rattle.schemes.specs.Schemes.{default_port}
-use Rattle.coap_values.specs.Values.{HostAsks, TextsAsk, value_in, SmallValue}
-use Rattle.coap_values.specs.declared.Value.{Value}
-use Rattle.coap_values.specs.declared.Value.TheVariants as ValueV
+use Rattle.coap_values.specs.Values.{HostAsks, TextsAsk, value_is, SmallValue}
 use Rattle.coap_options.specs.declared.Request.{Request}
 use Rattle.coap_options.specs.declared.Deltas.{Deltas}
 
@@ -77,22 +75,17 @@ value_coded delta (some v) = option_bytes delta v
 abbrev pub number_after : ℕ → ℕ → Bool → ℕ
 number_after before number any = cond any number before
 
--- whether it is set
-abbrev pub is_set : Value → Bool
-is_set ValueV.Unset = false
-is_set (ValueV.Is n) = true
-
 -- the difference of each number from the one before, where Uri-Host is set or not (h), Uri-Port is (p), and there are segments or none (s)
 pub record DeltasAre (h p s : Bool) (d : Deltas) : Type 0 where
   pub port : d.port ≡ 7 - number_after 0 3 h
   pub path : d.path ≡ 11 - number_after (number_after 0 3 h) 7 p
   pub query : d.query ≡ 15 - number_after (number_after (number_after 0 3 h) 7 p) 11 s
 
--- the values at the starts of two byte strings, and the texts of an input
-abbrev pub pieces_at : Bytes → Bytes → Bytes → Request → Deltas → Bytes
-pieces_at host_src port_src bs r d =
-    value_coded 3 (value_in host_src r.host)
-    ++ (value_coded d.port (value_in port_src r.port)
+-- the two values, and the texts of an input
+abbrev pub pieces_at : Bytes → Request → Deltas → Bytes
+pieces_at bs r d =
+    value_coded 3 (value_is r.host)
+    ++ (value_coded d.port (value_is r.port)
     ++ (coded d.path (contents bs r.path.at r.path.count)
     ++ coded d.query (contents bs r.query.at r.query.count)))
 

@@ -1,8 +1,7 @@
 // The CoAP options of a request for a CRI: read, judged, measured and written.
 #![tactic(auto)]
 
-ghost use Rattle.std.specs.Prelude.{◌+◌, ◌≤◌, ◌≡◌, length, ltb};
-ghost use Rattle.rules.specs.Bytes.{Bytes};
+ghost use Rattle.std.specs.Prelude.{◌+◌, ◌≤◌, ◌≡◌, is_some, length, ltb};
 ghost use Rattle.rules.specs.Model.{limits};
 ghost use Rattle.rules.specs.Result.{ok};
 ghost use Rattle.rules.specs.Calls.{outcome, after, options_call};
@@ -10,23 +9,23 @@ ghost use Rattle.put.specs.Wrote.{Wrote};
 ghost use Rattle.reader.specs.Answers.{slot_of, host_of, authority_of, opening_of, found_of};
 ghost use Rattle.outcomes.specs.Answers.{outcome_is};
 ghost use Rattle.coap_coding.specs.Coded.{Small};
-ghost use Rattle.coap_values.specs.Values.{HostAsks, TextsAsk, value_in, Inside, SmallValue};
-ghost use Rattle.coap_options.specs.Requests.{options_at, number_answer, opening_answer, AuthorityAsks, Asks, value_coded, number_after, is_set, DeltasAre, pieces_at, Stands, DeltasSmall};
+ghost use Rattle.coap_values.specs.Values.{HostAsks, TextsAsk, value_is, SmallValue};
+ghost use Rattle.coap_options.specs.Requests.{options_at, number_answer, opening_answer, AuthorityAsks, Asks, value_coded, number_after, DeltasAre, pieces_at, Stands, DeltasSmall};
 
 use coap_coding::{option_length, put_option, put_row, row_length};
-use coap_values::{Row, Value, host_value, parameters, port_or, port_value, segments};
-use numbers::{BASE, COAP, DEST, NAME_BYTES, ROOM};
+use coap_values::{host_value, parameters, port_value, segments};
+use numbers::NAME_BYTES;
 use outcomes::Outcome;
-use reader::{Answer, AuthorityAt, Found, HostAt, OpeningAt, SchemeAt, Slot};
-use schemes::DefaultPort;
+use reader::{AuthorityAt, Found, HostAt, OpeningAt, Row, Scheme};
+use refusals::refuse;
 
 // ---- which options there are
 
 // What a request says: the values of Uri-Host and Uri-Port, and where the segments and the parameters stand.
 #[derive(Clone, Copy)]
-pub struct Request {
-    pub host: Value,
-    pub port: Value,
+pub struct Request<'a> {
+    pub host: Option<&'a [u8]>,
+    pub port: Option<&'a [u8]>,
     pub path: Row,
     pub query: Row,
 }
@@ -37,16 +36,6 @@ pub struct Deltas {
     pub port: usize,
     pub path: usize,
     pub query: usize,
-}
-
-// Whether it is set.
-fn is_set(value: Value) -> bool
-    ensures { result ≡ is_set value }
-{
-    match value {
-        Value::Unset => false,
-        Value::Is(_) => true,
-    }
 }
 
 // The number of the last option: this one, if there is an option of it, else the one before.
@@ -61,13 +50,13 @@ fn number_after(before: usize, number: usize, any: bool) -> usize
 
 // The differences, by which options there are.
 fn deltas_of(request: Request) -> Deltas
-    ensures { DeltasAre (is_set request.host) (is_set request.port) (ltb 0 request.path.count) result }
+    ensures { DeltasAre (is_some request.entry.host) (is_some request.entry.port) (ltb 0 request.entry.path.count) result }
 {
     let host = request.host;
     let port = request.port;
     let path = request.path;
-    let a = number_after(0, 3, is_set(host));
-    let b = number_after(a, 7, is_set(port));
+    let a = number_after(0, 3, host.is_some());
+    let b = number_after(a, 7, port.is_some());
     let c = number_after(b, 11, 0 < path.count);
     Deltas {
         port: 7 - a,
@@ -79,26 +68,25 @@ fn deltas_of(request: Request) -> Deltas
 // ---- all options
 
 // How long an option is, if it is set.
-fn value_length(delta: usize, value: Value) -> usize
+fn value_length(delta: usize, value: Option<&[u8]>) -> usize
     requires { Small delta × SmallValue value }
-    ensures { (src : Bytes) → Inside src value → result ≡ length (value_coded delta (value_in src value)) }
+    ensures { result ≡ length (value_coded delta (value_is value.entry)) }
 {
     match value {
-        Value::Unset => 0,
-        Value::Is(n) => option_length(delta, n),
+        None => 0,
+        Some(v) => option_length(delta, v),
     }
 }
 
 // An option, if it is set.
-fn put_value(room: &mut [u8], at: usize, delta: usize, src: &[u8], value: Value) -> usize
+fn put_value(room: &mut [u8], at: usize, delta: usize, value: Option<&[u8]>) -> usize
     requires small { Small delta × SmallValue value }
-    requires inside { Inside src.now value }
-    requires value_in_bounds { at + length (value_coded delta (value_in src.now value)) ≤ length room.old }
-    ensures { Wrote room.old at (value_coded delta (value_in src.now value)) room.new result }
+    requires value_in_bounds { at + length (value_coded delta (value_is value)) ≤ length room.old }
+    ensures { Wrote room.old at (value_coded delta (value_is value.entry)) room.new result }
 {
     match value {
-        Value::Unset => at,
-        Value::Is(n) => put_option(room, at, delta, src, 0, n),
+        None => at,
+        Some(v) => put_option(room, at, delta, v),
     }
 }
 
@@ -106,7 +94,7 @@ fn put_value(room: &mut [u8], at: usize, delta: usize, src: &[u8], value: Value)
 fn options_length(s: &[u8], request: Request, deltas: Deltas) -> usize
     requires link_size { length s.now ≤ limits.bytes }
     requires stands { Stands s.now request × DeltasSmall deltas }
-    ensures { (host_src port_src : Bytes) → Inside host_src request.host → Inside port_src request.port → result ≡ length (pieces_at host_src port_src s.now request deltas) }
+    ensures { result ≡ length (pieces_at s.now request.entry deltas) }
 {
     let host = request.host;
     let port = request.port;
@@ -118,26 +106,18 @@ fn options_length(s: &[u8], request: Request, deltas: Deltas) -> usize
         + row_length(s, query.at, query.count, deltas.query)
 }
 
-// All options, from the start of the room on; the values of Uri-Host and Uri-Port stand at the start of `host_src` and of `port_src`.
-fn put_options(
-    room: &mut [u8],
-    host_src: &[u8],
-    port_src: &[u8],
-    s: &[u8],
-    request: Request,
-    deltas: Deltas,
-) -> usize
+// All options, from the start of the room on.
+fn put_options(room: &mut [u8], s: &[u8], request: Request, deltas: Deltas) -> usize
     requires stands { Stands s.now request × DeltasSmall deltas }
-    requires inside { Inside host_src.now request.host × Inside port_src.now request.port }
-    requires deltas_in_bounds { length (pieces_at host_src.now port_src.now s.now request deltas) ≤ length room.old }
-    ensures { Wrote room.old 0 (pieces_at host_src.now port_src.now s.now request deltas) room.new result }
+    requires deltas_in_bounds { length (pieces_at s.now request deltas) ≤ length room.old }
+    ensures { Wrote room.old 0 (pieces_at s.now request.entry deltas) room.new result }
 {
     let host = request.host;
     let port = request.port;
     let path = request.path;
     let query = request.query;
-    let a = put_value(room, 0, 3, host_src, host);
-    let b = put_value(room, a, deltas.port, port_src, port);
+    let a = put_value(room, 0, 3, host);
+    let b = put_value(room, a, deltas.port, port);
     let c = put_row(room, b, s, path.at, path.count, deltas.path);
     put_row(room, c, s, query.at, query.count, deltas.query)
 }
@@ -149,8 +129,8 @@ fn requested(
     s: &[u8],
     host: HostAt,
     port: u64,
-    path: Slot,
-    query: Slot,
+    path: Option<Row>,
+    query: Option<Row>,
     to_address: &[u8],
     to_port: u64,
     room: &mut [u8],
@@ -161,19 +141,19 @@ fn requested(
     ensures result_value { outcome_is result ≡ outcome (ok (options_at s.now (host_of host) port (slot_of path) (slot_of query) to_address.now to_port)) (length room.old) }
     ensures room_after { room.new ≡ after (ok (options_at s.now (host_of host) port (slot_of path) (slot_of query) to_address.now to_port)) room.old }
 {
-    let mut host_src = [0u8; NAME_BYTES];
-    let mut port_src = [0u8; 2];
+    let mut host_room = [0u8; NAME_BYTES];
+    let mut port_room = [0u8; 2];
     let request = Request {
-        host: host_value(&mut host_src, s, host, to_address),
-        port: port_value(&mut port_src, port, to_port),
+        host: host_value(&mut host_room, s, host, to_address),
+        port: port_value(&mut port_room, port, to_port),
         path: segments(s, path),
         query: parameters(query),
     };
     let deltas = deltas_of(request);
     if room.len() < options_length(s, request, deltas) {
-        return outcomes::refused(ROOM, 0);
+        refuse!(Room, 0);
     }
-    Outcome::Written(put_options(room, &host_src, &port_src, s, request, deltas))
+    Ok(put_options(room, s, request, deltas))
 }
 
 // The options of an accepted CRI whose scheme is a number: 11 where that has no default port, or where a fragment is set.
@@ -191,27 +171,22 @@ fn options_of_number(
     ensures result_value { outcome_is result ≡ outcome (number_answer s.now n (authority_of authority) (found_of found) to_address.now to_port) (length room.old) }
     ensures room_after { room.new ≡ after (number_answer s.now n (authority_of authority) (found_of found) to_address.now to_port) room.old }
 {
-    let host = authority.host;
-    let port = authority.port;
-    let path = found.path;
-    let query = found.query;
-    let fragment = found.fragment;
-    match schemes::default_port(n) {
-        DefaultPort::Unknown => outcomes::refused(COAP, 0),
-        DefaultPort::Is(default) => match fragment {
-            Slot::Set { .. } => outcomes::refused(COAP, 0),
-            Slot::Unset => requested(
-                s,
-                host,
-                port_or(port, default),
-                path,
-                query,
-                to_address,
-                to_port,
-                room,
-            ),
-        },
+    let Some(default) = schemes::default_port(n) else {
+        refuse!(Coap, 0);
+    };
+    if found.fragment.is_some() {
+        refuse!(Coap, 0);
     }
+    requested(
+        s,
+        authority.host,
+        authority.port.unwrap_or(default),
+        found.path,
+        found.query,
+        to_address,
+        to_port,
+        room,
+    )
 }
 
 // The options of an accepted reference: 8 where it is not absolute, 11 where its scheme is a text.
@@ -226,17 +201,15 @@ fn options_of_found(
     ensures result_value { outcome_is result ≡ outcome (opening_answer s.now (opening_of found.opening) (found_of found) to_address.now to_port) (length room.old) }
     ensures room_after { room.new ≡ after (opening_answer s.now (opening_of found.opening) (found_of found) to_address.now to_port) room.old }
 {
-    let opening = found.opening;
-    match opening {
-        OpeningAt::Discard(_) => outcomes::refused(BASE, 0),
-        OpeningAt::DiscardAll => outcomes::refused(BASE, 0),
-        OpeningAt::Full(scheme, authority) => match scheme {
-            SchemeAt::Unset => outcomes::refused(BASE, 0),
-            SchemeAt::Number(n) => options_of_number(
-                s, n, authority, found, to_address, to_port, room,
-            ),
-            SchemeAt::Name { .. } => outcomes::refused(COAP, 0),
-        },
+    let OpeningAt::Full(scheme, authority) = found.opening else {
+        refuse!(Base, 0);
+    };
+    match scheme {
+        None => refuse!(Base, 0),
+        Some(Scheme::Number(n)) => {
+            options_of_number(s, n, authority, found, to_address, to_port, room)
+        }
+        Some(Scheme::Name(_)) => refuse!(Coap, 0),
     }
 }
 
@@ -245,11 +218,9 @@ pub fn options(s: &[u8], address: &[u8], port: u16, room: &mut [u8]) -> Outcome
     ensures result_value { outcome_is result ≡ outcome (options_call limits s.now address.now port) (length room.old) }
     ensures room_after { room.new ≡ after (options_call limits s.now address.now port) room.old }
 {
-    if reader::is_address_length(address.len() as u64) {
-        return match reader::read(s) {
-            Answer::Refused(refusal) => Outcome::Refused(refusal),
-            Answer::Is(found) => options_of_found(s, found, address, port as u64, room),
-        };
+    if !reader::is_address_length(address.len() as u64) {
+        refuse!(Dest, 0);
     }
-    outcomes::refused(DEST, 0)
+    let found = reader::read(s)?;
+    options_of_found(s, found, address, port as u64, room)
 }

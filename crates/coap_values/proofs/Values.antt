@@ -1,67 +1,74 @@
 -- What the values are, by what stands at their places.
-use Prim.Native.Nat.{ℕ, zero, suc, ◌+◌, ◌-◌, ◌%◌, ◌≤◌, ◌<◌}
+use Prim.Native.Nat.{ℕ, ◌+◌, ◌-◌, ◌%◌, ◌≤◌, ◌<◌}
 use native.Mathlib.Omega.{arith}
+use Rattle.std.specs.Prelude as Code
+use Rattle.std.specs.Option.{unwrap_or}
 use mathlib.Core.Path.{◌≡◌, refl, sym, ap, ◌∙◌}
 use mathlib.Core.Bool.{true, false}
-use mathlib.Core.List.{List, [], ◌∷◌, ◌++◌}
+use mathlib.Core.List.{List, [], ◌∷◌, ◌++◌, map}
 use mathlib.Core.Option.{Option, none, some}
-use lib.ListN.{length, length-append}
+use lib.ListN.{length, take}
 use lib.Dec.{ltb, eqb}
 use borrow.Author.Tests.{ltb-true, eq-eqb, ne_eqb, lt-ltb, le-ltb}
 use Rattle.rules.specs.Bytes.{Bytes, part, big_endian, dot, same, concat, join}
 use Rattle.rules.specs.Model.{elements, normal_path}
 use Rattle.rules.specs.Address.{address_text}
 use Rattle.rules.specs.Options.{port_bytes}
-use Rattle.rules.specs.Reader.{spans, contents, Slot, unset, set, HostAt, address_at, labels_at}
+use Rattle.rules.specs.Reader.{span_at, spans, contents, HostAt, address_at, labels_at}
 use Rattle.rules.specs.Meaning.{said_texts, said_host}
 use Rattle.rules.proofs.Escapes.{join_each}
 use Rattle.rules.proofs.Tools.{cond_split, length_part}
-use Rattle.rules.proofs.RowWalk.{First, none_left}
+use Rattle.rules.proofs.RowWalk.{First, first, none_left}
+use Rattle.rules.proofs.Texts.{length_contents}
 use Rattle.put.specs.Wrote.{Wrote}
-use Rattle.put.proofs.Wrote.{wrote_length, wrote_taken}
-use Rattle.coap_values.specs.Values.{host_value, port_value, dotted, TextsAsk, Valued, RowOf}
-use Rattle.coap_values.specs.declared.Value.TheVariants as ValueV
+use Rattle.put.proofs.Wrote.{Left, Next, left_all, wrote_taken}
+use Rattle.put.proofs.Turns.{turn_next, turns_done}
+use Rattle.reader.specs.declared.Row.{Row}
+use Rattle.reader.specs.Answers.{slot_of}
+use Rattle.coap_values.specs.Values.{host_value, port_value, TextsAsk, RowOf}
 
 -- ---- a value that was written
 
-pub valued_none : {src : Bytes} {v : Option Bytes} → none ≡ v → Valued src ValueV.Unset v
-valued_none e = record { says = e; inside = tt; small = tt }
-
-pub valued_wrote : {a b w : Bytes} {v : Option Bytes} {k : ℕ} → some w ≡ v → length w ≤ length a → length w ≤ 255 → Wrote a 0 w b k → Valued b (ValueV.Is k) v
-valued_wrote {a} {b} {w} {v} {k} e h s p =
-    record {
-      says = ap some (wrote_taken p h) ∙ e;
-      inside = omega (arith, p.place, wrote_length p);
-      small = omega (arith, p.place);
-    }
+pub wrote_value : {a b w : Bytes} {v : Option Bytes} {k : ℕ} → some w ≡ v → length w ≤ length a → Wrote a 0 w b k → some (take k b) ≡ v
+wrote_value e h p = ap some (wrote_taken p h) ∙ e
 
 -- ---- Uri-Host
 
--- one turn over labels
-pub dotted_each : (t : Bytes) (ts : List Bytes) → dotted (t ∷ ts) ≡ (dot ∷ t) ++ dotted ts
+-- each text after a "."
+abbrev pub dotted : List Bytes → Bytes
+dotted ts = concat (map (λ (t : Bytes). dot ∷ t) ts)
+
+dotted_each : (t : Bytes) (ts : List Bytes) → dotted (t ∷ ts) ≡ (dot ∷ t) ++ dotted ts
 unfolding concat
 dotted_each t ts = refl
 
-pub dotted_none : dotted [] ≡ []
+dotted_none : dotted [] ≡ []
 unfolding concat
 dotted_none = refl
 
--- the first label, and each further one after a "."
-pub first_dotted : {bs : Bytes} {at n start k : ℕ} → First bs at n start k → part bs start k ++ dotted (contents bs (start + k) (n - 1)) ≡ join dot (contents bs at n)
-first_dotted {bs} {at} {n} {start} {k} f = sym (ap (join dot) f.content ∙ join_each dot (part bs start k) (contents bs (start + k) (n - 1)))
+-- the first label, and then each further one after a "."
+pub labels_first : {room : Bytes} {ts others : List Bytes} {t : Bytes} → ts ≡ t ∷ others → Next room 0 t (dotted others) room 0 (join dot ts)
+labels_first {room} {ts} {others} {t} e = record { left = rw (ap (join dot) e ∙ join_each dot t others) left_all }
 
-pub dotted_size : {bs : Bytes} {at n start k : ℕ} → First bs at n start k → k + length (dotted (contents bs (start + k) (n - 1))) ≡ length (join dot (contents bs at n))
-dotted_size {bs} {at} {n} {start} {k} f =
-    omega (arith, ap length (first_dotted f), length-append (part bs start k) (dotted (contents bs (start + k) (n - 1))), length_part bs start k f.inside)
+module _ {room room₀ w₀ : Bytes} {o at : ℕ} {left : List Bytes} where
+  pub labels_next : {others : List Bytes} {t : Bytes} → left ≡ t ∷ others → Left room o (dotted left) room₀ at w₀ → Next room o (dot ∷ t) (dotted others) room₀ at w₀
+  labels_next e = turn_next dotted dotted (λ (t : Bytes). dot ∷ t) dotted_each e
+
+  pub labels_done : left ≡ [] → Left room o (dotted left) room₀ at w₀ → Wrote room₀ at w₀ room o
+  labels_done e = turns_done dotted dotted_none e
+
+pub no_labels : (ts : List Bytes) → ts ≡ [] → [] ≡ join dot ts
+unfolding join
+no_labels ts e = rw e
 
 module _ (bs d : Bytes) where
-  pub host_same : {x : HostAt} {at n : ℕ} → x ≡ address_at at n → same (part bs at n) d ≡ true → none ≡ host_value (said_host bs x) d
+  pub host_same : {x : HostAt} {at n : ℕ} {t : Bytes} → x ≡ address_at at n → t ≡ part bs at n → same t d ≡ true → none ≡ host_value (said_host bs x) d
   unfolding host_value
-  host_same e t = rw (e, t)
+  host_same e f t = rw (e, ← f, t)
 
-  pub host_address : {x : HostAt} {at n : ℕ} → x ≡ address_at at n → same (part bs at n) d ≡ false → some (address_text (part bs at n)) ≡ host_value (said_host bs x) d
+  pub host_address : {x : HostAt} {at n : ℕ} {t : Bytes} → x ≡ address_at at n → t ≡ part bs at n → same t d ≡ false → some (address_text t) ≡ host_value (said_host bs x) d
   unfolding host_value
-  host_address e t = rw (e, t)
+  host_address e f t = rw (e, ← f, t)
 
   pub host_labels : {x : HostAt} {at n : ℕ} → x ≡ labels_at at n → some (join dot (contents bs at n)) ≡ host_value (said_host bs x) d
   unfolding host_value
@@ -69,17 +76,23 @@ module _ (bs d : Bytes) where
 
 -- ---- Uri-Port
 
-pub port_width_zero : (p : ℕ) → p ≡ 0 → 0 ≡ length (port_bytes p)
+pub port_width_zero : (p : ℕ) → p ≡ 0 → length (port_bytes p) ≡ 0
 unfolding port_bytes
 port_width_zero p e = rw (eq-eqb p 0 e)
 
-pub port_width_one : (p : ℕ) → (p ≡ 0 → ⊥) → p < 256 → 1 ≡ length (port_bytes p)
+pub port_width_one : (p : ℕ) → 0 < p → p < 256 → length (port_bytes p) ≡ 1
 unfolding port_bytes
-port_width_one p e h = rw (ne_eqb p 0 e, lt-ltb p 256 h)
+port_width_one p o h = rw (ne_eqb p 0 (λ e. omega arith), lt-ltb p 256 h)
 
-pub port_width_two : (p : ℕ) → (p ≡ 0 → ⊥) → 256 ≤ p → 2 ≡ length (port_bytes p)
+pub port_width_two : (p : ℕ) → 256 ≤ p → length (port_bytes p) ≡ 2
 unfolding port_bytes
-port_width_two p e h = rw (ne_eqb p 0 e, le-ltb p 256 h)
+port_width_two p h = rw (ne_eqb p 0 (λ e. omega arith), le-ltb p 256 h)
+
+pub port_width_most : (p : ℕ) → length (port_bytes p) ≤ 2
+unfolding port_bytes
+port_width_most p =
+    cond_split (λ (w : Bytes). length w ≤ 2) (eqb p 0) (λ t. omega arith)
+    (λ t. cond_split (λ (w : Bytes). length w ≤ 2) (ltb p 256) (λ u. omega arith) (λ u. omega arith))
 
 -- its bytes, the highest first
 pub port_big : (p : ℕ) → p ≤ 65535 → big_endian (length (port_bytes p)) p [] ≡ port_bytes p
@@ -100,53 +113,47 @@ port_other p d e = rw (ne_eqb p d e)
 
 -- ---- Uri-Path and Uri-Query
 
-none_row : (bs : Bytes) (at : ℕ) (ts : List Bytes) → [] ≡ ts → RowOf bs at 0 ts
+none_row : (bs : Bytes) (ts : List Bytes) → [] ≡ ts → RowOf bs 0 0 ts
 unfolding contents spans
-none_row bs at ts e = record { says = e; stand = tt; small = tt }
+none_row bs ts e = record { says = e; stand = tt; small = tt }
 
-pub one_positive : {n : ℕ} → n ≡ 1 → 0 < n
-one_positive e = omega arith
+-- of a path or a query that is set, its texts; else none
+pub texts_row : (bs : Bytes) (x : Code.Option Row) (r : Row) → r ≡ unwrap_or x (record { at = 0; count = 0 }) → TextsAsk bs (slot_of x) → RowOf bs r.at r.count (elements (said_texts bs (slot_of x)))
+texts_row bs Code.None r e h = rw e (none_row bs [] refl)
+texts_row bs (Code.Some y) r e h = rw e (record { says = refl; stand = h.0; small = h.1 })
 
--- the text of one item
-one_text : (bs : Bytes) (at n start k : ℕ) → First bs at n start k → n ≡ 1 → contents bs at n ≡ part bs start k ∷ []
-one_text bs at n start k f o = f.content ∙ ap (λ (ts : List Bytes). part bs start k ∷ ts) (none_left bs (start + k) (n - 1) (omega arith))
-
-module _ (bs : Bytes) {x : Slot} where
-  pub unset_row : x ≡ unset → RowOf bs 0 0 (elements (said_texts bs x))
-  unset_row e = none_row bs 0 _ (rw e)
-
-  pub set_row : {at n : ℕ} → x ≡ set at n → TextsAsk bs x → RowOf bs at n (elements (said_texts bs x))
-  set_row {at} {n} e h = let k : TextsAsk bs (set at n) = rw e at h in record { says = rw e; stand = k.0; small = k.1 }
-
-  pub unset_path : x ≡ unset → RowOf bs 0 0 (normal_path (elements (said_texts bs x)))
-  unfolding normal_path
-  unset_path e = none_row bs 0 _ (rw e)
-
+module _ {bs : Bytes} {at n : ℕ} {ts : List Bytes} (r : RowOf bs at n ts) where
   -- a path that is not changed
-  path_row : {at n : ℕ} → x ≡ set at n → TextsAsk bs x → normal_path (contents bs at n) ≡ contents bs at n → RowOf bs at n (normal_path (elements (said_texts bs x)))
-  path_row {at} {n} e h k = let t : TextsAsk bs (set at n) = rw e at h in record { says = rw e (sym k); stand = t.0; small = t.1 }
+  kept : normal_path ts ≡ ts → RowOf bs at n (normal_path ts)
+  kept e = record { says = r.says ∙ sym e; stand = r.stand; small = r.small }
 
   -- one segment
-  module _ {at n start k : ℕ} (f : First bs at n start k) (o : n ≡ 1) where
-    pub lone_empty : x ≡ set at n → k ≡ 0 → RowOf bs at 0 (normal_path (elements (said_texts bs x)))
-    unfolding normal_path
-    lone_empty e z = none_row bs at _ (rw (e, one_text bs at n start k f o, z))
+  module _ (start k : ℕ) (o : n ≡ 1) (e : record { start = start; length = k } ≡ span_at bs at) where
+    lone : First bs at n start k
+    lone = first bs at n start k (omega arith) r.stand e
 
-    pub lone_full : x ≡ set at n → TextsAsk bs x → (k ≡ 0 → ⊥) → RowOf bs at n (normal_path (elements (said_texts bs x)))
+    one_text : ts ≡ part bs start k ∷ []
+    one_text = sym r.says ∙ lone.content ∙ ap (λ (ts : List Bytes). part bs start k ∷ ts) (none_left bs (start + k) (n - 1) (omega arith))
+
+    pub lone_empty : k ≡ 0 → RowOf bs 0 0 (normal_path ts)
     unfolding normal_path
-    lone_full e h z = path_row e h (rw (one_text bs at n start k f o) (full (part bs start k) (λ l. z (sym (length_part bs start k f.inside) ∙ l))))
+    lone_empty z = none_row bs _ (rw (one_text, z))
+
+    pub lone_full : (k ≡ 0 → ⊥) → RowOf bs at n (normal_path ts)
+    unfolding normal_path
+    lone_full z = kept (rw one_text (full (part bs start k) (λ l. z (sym (length_part bs start k lone.inside) ∙ l))))
       where
         full : (t : Bytes) → (length t ≡ 0 → ⊥) → normal_path (t ∷ []) ≡ t ∷ []
         full [] z = absurd (z refl)
         full (b ∷ t) z = refl
 
   -- none or several
-  pub not_one : (at n : ℕ) → x ≡ set at n → TextsAsk bs x → (n ≡ 1 → ⊥) → RowOf bs at n (normal_path (elements (said_texts bs x)))
-  unfolding contents spans normal_path
-  not_one at zero e h z = path_row e h refl
-  not_one at (suc zero) e h z = absurd (z refl)
-  not_one at (suc (suc n)) e h z = path_row e h (several _ _ _)
+  pub not_one : (n ≡ 1 → ⊥) → RowOf bs at n (normal_path ts)
+  unfolding normal_path
+  not_one z = kept (other ts (λ l. z (omega (arith, l, ap length r.says, length_contents bs at n))))
     where
-      several : (t u : Bytes) (ts : List Bytes) → normal_path (t ∷ u ∷ ts) ≡ t ∷ u ∷ ts
-      several [] u ts = refl
-      several (b ∷ t) u ts = refl
+      other : (ts : List Bytes) → (length ts ≡ 1 → ⊥) → normal_path ts ≡ ts
+      other [] z = refl
+      other (t ∷ []) z = absurd (z refl)
+      other ([] ∷ u ∷ ts) z = refl
+      other ((b ∷ t) ∷ u ∷ ts) z = refl

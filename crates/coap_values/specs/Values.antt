@@ -1,16 +1,17 @@
 -- The values of a request's options, what is known of where they stand in an accepted input, and what the code's answers say of them.
-use Rattle.std.specs.Prelude.{ℕ, ◌≤◌, ◌<◌, ◌≡◌, cond, List, ◌∷◌, map, length, eqb}
+use Rattle.std.specs.Prelude.{ℕ, ◌≤◌, ◌<◌, ◌≡◌, cond, List, ◌∷◌, map, length, eqb, IfSome}
+use Rattle.std.specs.Prelude as Code
+use Rattle.std.specs.Borrow.{Bor}
 use Rattle.std.proofs.Math.Option.{Option, none, some}
-use Rattle.rules.specs.Bytes.{Bytes, part, dot, same, concat, join}
+use Rattle.rules.specs.Bytes.{Bytes, part, dot, same, join}
 use Rattle.rules.specs.Model.{Host, address, labels}
 use Rattle.rules.specs.Address.{address_text}
 use Rattle.rules.specs.Options.{port_bytes}
+use Rattle.rules.specs.Code.{option_is}
 use Rattle.rules.specs.Reader.{contents, Slot, unset, set, HostAt, address_at, labels_at}
 use Rattle.rules.specs.Standing.{RowAt}
 use Rattle.addresses.specs.AddressAt.{AddressAt}
 use Rattle.coap_coding.specs.Coded.{Small, AllSmall}
-use Rattle.coap_values.specs.declared.Value.{Value}
-use Rattle.coap_values.specs.declared.Value.TheVariants as ValueV
 
 -- ---- the values of options that a request has at most once; none where it has no such option
 
@@ -23,16 +24,12 @@ host_value (address a) to_address = cond (same a to_address) none (some (address
 unfoldable pub port_value : ℕ → ℕ → Option Bytes
 port_value port to_port = cond (eqb port to_port) none (some (port_bytes port))
 
--- each text after a "."
-abbrev pub dotted : List Bytes → Bytes
-dotted ts = concat (map (λ (t : Bytes). dot ∷ t) ts)
-
 -- ---- what is known of the positions
 
 -- an address of 4 or 16 bytes, or labels, and at most 255 bytes in the option's value
 abbrev pub HostAsks : Bytes → HostAt → Type 0
 HostAsks bs (address_at at n) = AddressAt bs at n × (length (address_text (part bs at n)) ≤ 255)
-HostAsks bs (labels_at at n) = (RowAt bs at n × (0 < n)) × (length (join dot (contents bs at n)) ≤ 255)
+HostAsks bs (labels_at at n) = RowAt bs at n × (length (join dot (contents bs at n)) ≤ 255)
 
 -- segments or parameters
 abbrev pub TextsAsk : Bytes → Slot → Type 0
@@ -41,26 +38,13 @@ TextsAsk bs (set at n) = RowAt bs at n × AllSmall (contents bs at n)
 
 -- ---- what the answers say
 
--- the value at the start of the bytes
-abbrev pub value_in : Bytes → Value → Option Bytes
-value_in src ValueV.Unset = none
-value_in src (ValueV.Is n) = some (part src 0 n)
-
--- it lies inside them
-abbrev pub Inside : Bytes → Value → Type 0
-Inside src ValueV.Unset = Unit {0}
-Inside src (ValueV.Is n) = n ≤ length src
+-- the value, where there is one
+abbrev pub value_is : Code.Option (Bor Bytes) → Option Bytes
+value_is = option_is (λ (b : Bor Bytes). b.now)
 
 -- its length needs one byte after its nibble at most
-abbrev pub SmallValue : Value → Type 0
-SmallValue ValueV.Unset = Unit {0}
-SmallValue (ValueV.Is n) = Small n
-
--- the bytes hold the value v
-pub record Valued (src : Bytes) (r : Value) (v : Option Bytes) : Type 0 where
-  pub says : value_in src r ≡ v
-  pub inside : Inside src r
-  pub small : SmallValue r
+abbrev pub SmallValue : Code.Option (Bor Bytes) → Type 0
+SmallValue v = IfSome v (λ (b : Bor Bytes). Small (length b.now))
 
 -- the texts ts stand in a row
 pub record RowOf (bs : Bytes) (at n : ℕ) (ts : List Bytes) : Type 0 where

@@ -7,28 +7,35 @@ use mathlib.Core.List.{List, [], ◌∷◌, ◌++◌, append_assoc}
 use mathlib.Core.Option.{Option, none, some}
 use lib.ListN.{length, get_or, get_elem?, drop, length-append}
 use lib.Seq.{drop_at, get_or-drop, drop-drop}
+use Rattle.std.specs.Prelude as P
+use Rattle.std.specs.Prelude.{Some, None}
+use Rattle.rules.specs.Code.{option_laid}
 use Rattle.rules.specs.Model as Model
 use Rattle.rules.specs.Model.{elements}
 use Rattle.rules.specs.Writing.{labels_of, opening_labels}
-use Rattle.reader.specs.declared.Port.{Port}
-use Rattle.reader.specs.declared.Port.TheVariants as PortV
-use Rattle.reader.specs.Answers.{port_of}
+use Rattle.rules.specs.Meaning.{text_span}
+use Rattle.cbor.specs.declared.Span.{Span}
+use Rattle.reader.specs.Answers.{port_of, text_of}
 use Rattle.components.specs.declared.Opening.{Opening}
 use Rattle.components.specs.declared.Opening.TheVariants as OpeningV
-use Rattle.components.specs.declared.Authority.TheVariants as AuthorityV
-use Rattle.components.specs.declared.Texts.{Texts}
-use Rattle.components.specs.declared.Texts.TheVariants as TextsV
-use Rattle.components.specs.Content.{numbered_span, spans_of, scheme_of, authority_of, opening_of, texts_of, fragment_of, label_count, text_count, components_of}
-use Rattle.components.specs.Layout.{scheme_laid, port_laid, host_laid, opening_laid, texts_laid, fragment_laid, components_laid, span_numbers, text_numbers}
+use Rattle.components.specs.declared.Host.{Host}
+use Rattle.components.specs.declared.Host.TheVariants as HostV
+use Rattle.components.specs.Content.{numbered_span, spans_of, scheme_of, host_of, opening_of, texts_of, fragment_of, labels_in, label_count, text_count, components_of}
+use Rattle.components.specs.Layout.{scheme_laid, host_laid, opening_laid, texts_laid, fragment_laid, components_laid, span_numbers, text_numbers}
 use Rattle.components.proofs.Filling.{length_numbers}
 
 -- a port is laid out as the reader has it
-pub port_laid_lem : (p : Port) → p ≡ port_laid (port_of p)
-port_laid_lem PortV.Unset = refl
-port_laid_lem (PortV.Is n) = refl
+pub port_laid_lem : (p : P.Option ℕ) → p ≡ option_laid (λ n. n) (port_of p)
+port_laid_lem None = refl
+port_laid_lem (Some n) = refl
+
+-- and so is where a fragment stands
+pub fragment_laid_lem : (t : P.Option Span) → t ≡ fragment_laid (text_span (text_of t))
+fragment_laid_lem None = refl
+fragment_laid_lem (Some t) = refl
 
 -- and what it says is the port
-port_said : (p : Option ℕ) → port_of (port_laid p) ≡ p
+port_said : (p : Option ℕ) → port_of (option_laid (λ n. n) p) ≡ p
 port_said none = refl
 port_said (some n) = refl
 
@@ -38,21 +45,20 @@ unfolding spans_of span_numbers
 spans_said [] xs = refl
 spans_said (t ∷ ts) xs = ap (λ (l : List Model.Span). t ∷ l) (spans_said ts xs)
 
-scheme_said : (s : Option (Model.Scheme Model.Span)) → scheme_of (scheme_laid s) ≡ s
-scheme_said none = refl
-scheme_said (some (Model.number n)) = refl
-scheme_said (some (Model.name t)) = refl
+scheme_back : (s : Option (Model.Scheme Model.Span)) → scheme_of (option_laid scheme_laid s) ≡ s
+scheme_back none = refl
+scheme_back (some (Model.number n)) = refl
+scheme_back (some (Model.name t)) = refl
 
-host_said : (h : Model.Host Model.Span) (p : Option ℕ) (xs : List ℕ)
-    → authority_of (span_numbers (labels_of h) ++ xs) (host_laid h (port_laid p)) ≡ some (record { host = h; port = p })
-host_said (Model.address a) p xs = λ i. some (record { host = Model.address a; port = port_said p i })
-host_said (Model.labels ts) p xs = λ i. some (record { host = Model.labels (spans_said ts xs i); port = port_said p i })
+host_said : (h : Model.Host Model.Span) (xs : List ℕ) → host_of (span_numbers (labels_of h) ++ xs) (host_laid h) ≡ h
+host_said (Model.address a) xs = refl
+host_said (Model.labels ts) xs = ap Model.labels (spans_said ts xs)
 
 opening_said : (o : Model.Opening Model.Span) (xs : List ℕ) → opening_of (span_numbers (opening_labels o) ++ xs) (opening_laid o) ≡ o
 opening_said (Model.discard k) xs = refl
 opening_said Model.discard_all xs = refl
-opening_said (Model.full s none) xs = λ i. Model.full (scheme_said s i) none
-opening_said (Model.full s (some a)) xs = λ i. Model.full (scheme_said s i) (host_said a.host a.port xs i)
+opening_said (Model.full s none) xs = λ i. Model.full (scheme_back s i) none
+opening_said (Model.full s (some a)) xs = λ i. Model.full (scheme_back s i) (some (record { host = host_said a.host xs i; port = port_said a.port i }))
 
 texts_said : (ts : Option (List Model.Span)) (xs : List ℕ) → texts_of (span_numbers (elements ts) ++ xs) (texts_laid ts) ≡ ts
 texts_said none xs = refl
@@ -74,13 +80,16 @@ length_spans_of (suc n) xs = ap suc (length_spans_of n (drop 2 xs))
 pub labels_counted : (xs : List ℕ) (o : Opening) → length (opening_labels (opening_of xs o)) ≡ label_count o
 labels_counted xs (OpeningV.Discard k) = refl
 labels_counted xs OpeningV.DiscardAll = refl
-labels_counted xs (OpeningV.Full s AuthorityV.Unset) = refl
-labels_counted xs (OpeningV.Full s (AuthorityV.Address a p)) = refl
-labels_counted xs (OpeningV.Full s (AuthorityV.Labels n p)) = length_spans_of n xs
+labels_counted xs (OpeningV.Full s None) = refl
+labels_counted xs (OpeningV.Full s (Some a)) = of a.host
+  where
+    of : (h : Host) → length (labels_of (host_of xs h)) ≡ labels_in h
+    of (HostV.Address a) = refl
+    of (HostV.Labels n) = length_spans_of n xs
 
-pub texts_counted : (xs : List ℕ) (t : Texts) → length (elements (texts_of xs t)) ≡ text_count t
-texts_counted xs TextsV.Unset = refl
-texts_counted xs (TextsV.Set n) = length_spans_of n xs
+pub texts_counted : (xs : List ℕ) (t : P.Option ℕ) → length (elements (texts_of xs t)) ≡ text_count t
+texts_counted xs None = refl
+texts_counted xs (Some n) = length_spans_of n xs
 
 -- and so of what is laid out
 labels_laid : (o : Model.Opening Model.Span) → length (opening_labels o) ≡ label_count (opening_laid o)

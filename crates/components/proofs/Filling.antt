@@ -2,7 +2,7 @@
 use Prim.Native.Nat.{ℕ, suc, ◌+◌, ◌-◌, ◌*◌, ◌≤◌, ◌<◌}
 use native.Mathlib.Omega.{arith}
 use mathlib.Core.Path.{◌≡◌, refl, sym, ap, subst}
-use mathlib.Core.List.{List, [], ◌∷◌}
+use mathlib.Core.List.{List, [], ◌∷◌, ◌++◌}
 use lib.ListN.{length, set}
 use Rattle.rules.specs.Bytes.{Bytes}
 use Rattle.rules.specs.Model.{Span, elements, limits, most_labels, most_parameters}
@@ -12,7 +12,8 @@ use Rattle.rules.specs.Meaning.{text_spans}
 use Rattle.rules.specs.Standing.{ItemStands, RowAt, TextsStand, FoundStands}
 use Rattle.rules.proofs.Texts.{length_spans}
 use Rattle.put.specs.Wrote.{Wrote}
-use Rattle.put.proofs.Wrote.{Left, Next, left_all, left_done, next_room, next_wrote, wrote_two}
+use Rattle.put.proofs.Wrote.{Left, Next}
+use Rattle.put.proofs.Turns.{turn_next, turns_done}
 use Rattle.cbor.specs.declared.Span as Code
 use Rattle.cbor.specs.Heads.{span_is}
 use Rattle.components.specs.Content.{most_numbers}
@@ -44,42 +45,18 @@ pub found_size : (bs : Bytes) (l : Slot) (f : Found) → TextsStand most_labels 
 found_size bs l f h g =
     omega (arith, texts_size most_labels bs l h, texts_size limits.segments bs f.path g.path, texts_size most_parameters bs f.query g.query)
 
--- the items from `next` on are left, and their numbers are to be put at o
-pub record Filling (room : List ℕ) (o : ℕ) (bs : Bytes) (next left : ℕ) (room₀ : List ℕ) (at : ℕ) (w₀ : List ℕ) : Type 0 where
-  pub numbers : Left room o (span_numbers (spans bs next left)) room₀ at w₀
-  pub stand : RowAt bs next left
+-- the numbers of the first span, and then of the others
+each : (t : Span) (ts : List Span) → span_numbers (t ∷ ts) ≡ (t.start ∷ t.length ∷ []) ++ span_numbers ts
+unfolding span_numbers
+each t ts = refl
 
-pub fill_start : {room : List ℕ} {at : ℕ} (bs : Bytes) (first n : ℕ) → RowAt bs first n → Filling room at bs first n room at (span_numbers (spans bs first n))
-fill_start bs first n h = record { numbers = left_all; stand = h }
+none : span_numbers [] ≡ []
+unfolding span_numbers
+none = refl
 
-module _ {room room₀ w₀ : List ℕ} {o at : ℕ} {bs : Bytes} {next left : ℕ} (f : Filling room o bs next left room₀ at w₀) where
-  one_more : 0 < left → left ≡ suc (left - 1)
-  one_more h = omega arith
+pub numbers_next : {t : Span} {left others : List Span} {room room₀ w₀ : List ℕ} {o at : ℕ} → left ≡ t ∷ others → Left room o (span_numbers left) room₀ at w₀
+    → Next room o (t.start ∷ t.length ∷ []) (span_numbers others) room₀ at w₀
+numbers_next e l = turn_next span_numbers span_numbers (λ t. t.start ∷ t.length ∷ []) each e l
 
-  -- the next item, and what is left after it
-  pub fill_item : 0 < left → ItemStands bs next
-  fill_item h = (subst (RowAt bs next) (one_more h) f.stand).0
-
-  numbers_next : 0 < left → Next room o ((span_at bs next).start ∷ (span_at bs next).length ∷ []) (span_numbers (spans bs (end_at bs next) (left - 1))) room₀ at w₀
-  unfolding span_numbers spans
-  numbers_next h = record { left = subst (λ (n : ℕ). Left room o (span_numbers (spans bs next n)) room₀ at w₀) (one_more h) f.numbers }
-
-  pub fill_room : 0 < left → at + length w₀ ≤ length room₀ → o + 2 ≤ length room
-  fill_room h m = next_room (numbers_next h) m
-
-  pub fill_inside : 0 < left → (span : Code.Span) → span_is span ≡ span_at bs next → span.start + span.length ≤ length bs
-  fill_inside h span e = subst (λ (s : Span). s.start + s.length ≤ length bs) (sym e) (fill_item h).inside
-
-  pub fill_step : 0 < left → (span : Code.Span) → span_is span ≡ span_at bs next
-      → Filling (set (set room o span.start) (o + 1) span.length) (o + 2) bs (span.start + span.length) (left - 1) room₀ at w₀
-  fill_step h span e =
-      let end : end_at bs next ≡ span.start + span.length = ap (λ (s : Span). s.start + s.length) (sym e) in
-      let one = subst (λ (s : Span). Next room o (s.start ∷ s.length ∷ []) (span_numbers (spans bs (end_at bs next) (left - 1))) room₀ at w₀) (sym e) (numbers_next h) in
-      subst (λ (p : ℕ). Filling (set (set room o span.start) (o + 1) span.length) (o + 2) bs p (left - 1) room₀ at w₀) end
-      (record { numbers = next_wrote one wrote_two; stand = (subst (RowAt bs next) (one_more h) f.stand).1 })
-
-  pub fill_end : left ≤ 0 → Wrote room₀ at w₀ room o
-  unfolding span_numbers spans
-  fill_end h =
-      let none : left ≡ 0 = omega arith in
-      left_done (subst (λ (n : ℕ). Left room o (span_numbers (spans bs next n)) room₀ at w₀) none f.numbers)
+pub numbers_done : {left : List Span} {room room₀ w₀ : List ℕ} {o at : ℕ} → left ≡ [] → Left room o (span_numbers left) room₀ at w₀ → Wrote room₀ at w₀ room o
+numbers_done e l = turns_done span_numbers none e l

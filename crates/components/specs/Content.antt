@@ -1,20 +1,20 @@
 -- What this crate's structs and an array of numbers say, in the terms of the rules, for any values that they may hold.
-use Rattle.std.specs.Prelude.{ℕ, zero, suc, ◌+◌, ◌*◌, List, [], ◌∷◌, get_or, drop}
-use Rattle.std.proofs.Math.Option.{Option, none, some}
+use Rattle.std.specs.Prelude as P
+use Rattle.std.specs.Prelude.{Some, None, ℕ, zero, suc, ◌+◌, ◌*◌, List, [], ◌∷◌, get_or, drop}
+use Rattle.std.proofs.Math.Option.{Option}
 use Rattle.rules.specs.Model as Model
 use Rattle.rules.specs.Model.{limits, most_labels, most_parameters}
+use Rattle.rules.specs.Code.{option_is}
+use Rattle.cbor.specs.declared.Span.{Span}
 use Rattle.cbor.specs.Heads.{span_is}
+use Rattle.reader.specs.declared.Scheme.{Scheme}
+use Rattle.reader.specs.declared.Scheme.TheVariants as SchemeV
 use Rattle.reader.specs.Answers.{port_of}
-use Rattle.components.specs.declared.Scheme.{Scheme}
-use Rattle.components.specs.declared.Scheme.TheVariants as SchemeV
+use Rattle.components.specs.declared.Host.{Host}
+use Rattle.components.specs.declared.Host.TheVariants as HostV
 use Rattle.components.specs.declared.Authority.{Authority}
-use Rattle.components.specs.declared.Authority.TheVariants as AuthorityV
 use Rattle.components.specs.declared.Opening.{Opening}
 use Rattle.components.specs.declared.Opening.TheVariants as OpeningV
-use Rattle.components.specs.declared.Texts.{Texts}
-use Rattle.components.specs.declared.Texts.TheVariants as TextsV
-use Rattle.components.specs.declared.Fragment.{Fragment}
-use Rattle.components.specs.declared.Fragment.TheVariants as FragmentV
 use Rattle.components.specs.declared.Components.{Components}
 
 -- the k-th span, counted from 0
@@ -26,17 +26,22 @@ unfoldable pub spans_of : ℕ → List ℕ → List Model.Span
 spans_of zero xs = []
 spans_of (suc n) xs = numbered_span xs 0 ∷ spans_of n (drop 2 xs)
 
--- the scheme's number, or where its text stands
-abbrev pub scheme_of : Scheme → Option (Model.Scheme Model.Span)
-scheme_of SchemeV.Unset = none
-scheme_of (SchemeV.Number n) = some (Model.number n)
-scheme_of (SchemeV.Name t) = some (Model.name (span_is t))
+-- a scheme's number, or where its text stands
+abbrev pub scheme_said : Scheme → Model.Scheme Model.Span
+scheme_said (SchemeV.Number n) = Model.number n
+scheme_said (SchemeV.Name t) = Model.name (span_is t)
 
--- the host and its port; the numbers begin with those of the labels
-abbrev pub authority_of : List ℕ → Authority → Option (Model.Authority Model.Span)
-authority_of xs AuthorityV.Unset = none
-authority_of xs (AuthorityV.Address a p) = some (record { host = Model.address (span_is a); port = port_of p })
-authority_of xs (AuthorityV.Labels n p) = some (record { host = Model.labels (spans_of n xs); port = port_of p })
+abbrev pub scheme_of : P.Option Scheme → Option (Model.Scheme Model.Span)
+scheme_of = option_is scheme_said
+
+-- an address, or labels; the numbers begin with those of the labels
+abbrev pub host_of : List ℕ → Host → Model.Host Model.Span
+host_of xs (HostV.Address a) = Model.address (span_is a)
+host_of xs (HostV.Labels n) = Model.labels (spans_of n xs)
+
+-- the host and its port
+abbrev pub authority_of : List ℕ → P.Option Authority → Option (Model.Authority Model.Span)
+authority_of xs = option_is (λ a. record { host = host_of xs a.host; port = port_of a.port })
 
 -- the discard, or scheme and authority
 abbrev pub opening_of : List ℕ → Opening → Model.Opening Model.Span
@@ -45,14 +50,12 @@ opening_of xs OpeningV.DiscardAll = Model.discard_all
 opening_of xs (OpeningV.Full s a) = Model.full (scheme_of s) (authority_of xs a)
 
 -- a path or a query; the numbers begin with those of its texts
-abbrev pub texts_of : List ℕ → Texts → Option (List Model.Span)
-texts_of xs TextsV.Unset = none
-texts_of xs (TextsV.Set n) = some (spans_of n xs)
+abbrev pub texts_of : List ℕ → P.Option ℕ → Option (List Model.Span)
+texts_of xs = option_is (λ n. spans_of n xs)
 
 -- where the fragment stands
-abbrev pub fragment_of : Fragment → Option Model.Span
-fragment_of FragmentV.Unset = none
-fragment_of (FragmentV.Is t) = some (span_is t)
+abbrev pub fragment_of : P.Option Span → Option Model.Span
+fragment_of = option_is span_is
 
 -- ---- the texts that stand in the array: labels, then segments, then parameters
 
@@ -60,11 +63,15 @@ fragment_of (FragmentV.Is t) = some (span_is t)
 abbrev pub most_numbers : ℕ
 most_numbers = 2 * (most_labels + limits.segments + most_parameters)
 
+-- how many labels a host has
+abbrev pub labels_in : Host → ℕ
+labels_in (HostV.Address a) = 0
+labels_in (HostV.Labels n) = n
+
 -- how many labels an authority has
-abbrev pub host_count : Authority → ℕ
-host_count AuthorityV.Unset = 0
-host_count (AuthorityV.Address a p) = 0
-host_count (AuthorityV.Labels n p) = n
+abbrev pub host_count : P.Option Authority → ℕ
+host_count None = 0
+host_count (Some a) = labels_in a.host
 
 -- how many labels an opening has
 abbrev pub label_count : Opening → ℕ
@@ -73,9 +80,9 @@ label_count OpeningV.DiscardAll = 0
 label_count (OpeningV.Full s a) = host_count a
 
 -- how many texts a path or a query has
-abbrev pub text_count : Texts → ℕ
-text_count TextsV.Unset = 0
-text_count (TextsV.Set n) = n
+abbrev pub text_count : P.Option ℕ → ℕ
+text_count None = 0
+text_count (Some n) = n
 
 -- the place of the first segment
 abbrev pub path_place : Components → ℕ

@@ -5,18 +5,17 @@
 ghost use Rattle.std.specs.Prelude.{◌≡◌, length};
 ghost use Rattle.rules.specs.Calls.{outcome, after, read_call, write_call, resolve_call, text_call, options_call};
 ghost use Rattle.rules.specs.Model.{limits};
+ghost use Rattle.refusals.specs.Answers.{answer_is};
 ghost use Rattle.components.specs.Content.{components_of};
 ghost use Rattle.components.specs.Layout.{reading_laid, spans_after};
 ghost use Rattle.outcomes.specs.Answers.{outcome_is};
 
 pub use cbor::Span;
-pub use components::{Authority, Components, Fragment, Opening, Reading, Scheme, Spans, Texts};
+pub use components::{Authority, Components, Host, Opening, Scheme, Spans};
 pub use outcomes::Outcome;
-pub use reader::Port;
-pub use refusals::{Refusal, Verdict};
 
-// The numbers of refusals; crates/numbers says when each is given.
-pub use numbers::{BASE, COAP, CUT, DEST, FORM, HEAD, LIMIT, NONE, RESULT, ROOM, RULE, TAIL, TEXT};
+// Why and where something is refused; crates/refusals says when each reason is given, and `reason as u8` is its number.
+pub use refusals::{Reason, Refusal};
 
 // The largest input; rooms that are long enough for the text and for the options of every link; the numbers of Spans.
 pub use numbers::{BYTES, OPTIONS_ROOM, SPANS, TEXT_ROOM};
@@ -30,14 +29,14 @@ pub use components::{label_count, text_count, text_span};
 pub use authority_view::{authority, authority_verdict};
 pub use segment_view::{segment, segment_verdict};
 
-// A refusal has a number and a place. The place of 1 to 7 is the first byte of the item at fault; that of 8 is the place inside the base, or 0
-// where the base or the link was read and is not absolute; every other number has the place 0, and so has every refusal of `write`.
+// The place of a refusal from 1 to 7 is the first byte of the item at fault; that of 8 is the place inside the base, or 0 where the base or the
+// link was read and is not absolute; every other refusal has the place 0, and so has every refusal of `write`.
 
-// Reads a CRI reference: accepted, and its components; or a refusal from 1 to 7, and every component unset. Texts and addresses are given by
-// where they stand in the link. Those of labels, segments and parameters go into `spans`, one after the other, start and length of each; past
-// them, and after a refusal, `spans` is as it was.
-pub fn read(link: &[u8], spans: &mut Spans) -> Reading
-    ensures value { result ≡ reading_laid (read_call limits link.now) }
+// Reads a CRI reference: its components; or a refusal from 1 to 7, and no components. Texts and addresses are given by where they stand in the
+// link. Those of labels, segments and parameters go into `spans`, one after the other, start and length of each; past them, and after a
+// refusal, `spans` is as it was.
+pub fn read(link: &[u8], spans: &mut Spans) -> Result<Components, Refusal>
+    ensures value { answer_is (λ c. c) result ≡ reading_laid (read_call limits link.now) }
     ensures spans_after { spans.new ≡ spans_after (read_call limits link.now) spans.old }
 {
     components::read(link, spans)

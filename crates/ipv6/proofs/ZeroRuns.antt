@@ -4,7 +4,7 @@ use native.Mathlib.Omega.{arith}
 use mathlib.Core.Path.{◌≡◌, refl, sym, ap, ap₂, ◌∙◌, subst}
 use mathlib.Core.Bool.{Bool, true, false}
 use mathlib.Core.List.{List, [], ◌∷◌}
-use lib.ListN.{length, get_or, take, drop, drop_of_length-le}
+use lib.ListN.{length, get_or, take, drop}
 use lib.Seq.{take-nil, drop-nil, drop-cons}
 use lib.Dec.{leb, eqb}
 use Rattle.rules.specs.Address.{zeros_ahead, Run, run_here, run_later, longer, longest}
@@ -106,19 +106,7 @@ found k [] = record {
 }
 found k (g ∷ gs) = found_more k g gs (zeros_from (suc k) gs) (found (suc k) gs)
 
--- a group more, and no run is longer than n
-pub run_most : (n k g : ℕ) (gs : List ℕ) → (zeros_from (suc k) gs).size ≤ n → zeros_ahead (g ∷ gs) ≤ n → (zeros_from k (g ∷ gs)).size ≤ n
-unfolding zeros_from with_group
-run_most n k g gs h l =
-    let z : Zeros = zeros_from (suc k) gs in
-    let a : ahead z.here g ≡ zeros_ahead (g ∷ gs) = ahead_more g gs z.here (found (suc k) gs).leading in
-    cond_split (λ (x : Zeros). x.size ≤ n) (leb z.size (ahead z.here g)) (λ _. omega arith) (λ _. h)
-
 -- one turn of the walk: from the groups from k on to those from k - 1 on
-pub walk_first : (gs : List ℕ) → length gs ≡ 8 → zeros 0 8 0 ≡ zeros_from 8 (drop 8 gs)
-unfolding zeros_from
-walk_first gs e = sym (ap (zeros_from 8) (drop_of_length-le gs {i = 8} (omega arith)))
-
 pub walk_turn : (gs : List ℕ) (k : ℕ) → 0 < k → k ≤ length gs → with_group (k - 1) (get_or gs (k - 1) 0) (zeros_from k (drop k gs)) ≡ zeros_from (k - 1) (drop (k - 1) gs)
 unfolding zeros_from
 walk_turn gs k l h =
@@ -127,3 +115,6 @@ walk_turn gs k l h =
 
 pub walk_ahead : (k : ℕ) (gs : List ℕ) → (zeros_from k gs).here ≤ length gs
 walk_ahead k gs = omega (arith, (found k gs).leading, zeros_le gs)
+
+pub run_inside : (gs : List ℕ) → (zeros_from 0 gs).at + (zeros_from 0 gs).size ≤ length gs
+run_inside gs = omega (arith, (found 0 gs).inside)

@@ -1,28 +1,37 @@
 // An IPv6 address in text, by RFC 5952, written into a lent room; and how long it is.
 #![tactic(auto)]
 
-ghost use Rattle.std.specs.Prelude.{◌+◌, ◌≤◌, ◌<◌, ◌≡◌, length, get_or};
-ghost use Rattle.rules.specs.Bytes.{part, colon};
-ghost use Rattle.rules.specs.Numeral.{digit_byte, numeral};
+ghost use Rattle.std.specs.Prelude.{◌+◌, ◌≤◌, ◌<◌, ◌≡◌, length};
 ghost use Rattle.rules.specs.Address.{groups, hex_groups, hex_text, mapped, ipv6_text};
-ghost use Rattle.put.specs.Joined.{further};
-ghost use Rattle.put.specs.Tables.{Digits};
 ghost use Rattle.put.specs.Wrote.{Wrote};
-ghost use Rattle.ipv6.specs.Zeros.{ahead, with_group, zeros_from};
+ghost use Rattle.ipv6.specs.Zeros.{with_group, zeros_from};
 
 use ipv4::{ipv4_length, put_ipv4};
-use numeral::{hex_length, lower_hex_digits, put_hex};
+use numeral::{hex_length, put_hex};
 use put::{put_byte, put_bytes};
 
-// Group k of the IPv6 address in the 16 bytes of src from a position on.
-fn group_at(src: &[u8], from: usize, k: usize) -> u16
-    requires { (from + 16 ≤ length src.now) × (k < 8) }
-    ensures { result ≡ get_or (groups (part src.now from 16)) k 0 }
+// What an IPv4-mapped address begins with.
+static MAPPED_START: [u8; 12] = [0, 0, 0, 0, 0, 0, 0, 0, 0, 0, 0xff, 0xff];
+
+// Whether an address is IPv4-mapped. Few addresses have the last byte of the twelve, so it is tested first.
+#[tactic(auto, using(crate::proofs::Mapped::mapped_last), unfolding(rules::specs::Address::mapped))]
+fn is_mapped(address: &[u8]) -> bool
+    requires { length address.now ≡ 16 }
+    ensures { result ≡ mapped address.now }
 {
-    let i = from + 2 * k;
-    let high = src[i] as u16;
-    let low = src[i + 1] as u16;
-    high * 256 + low
+    address[11] == 0xff && &address[..12] == &MAPPED_START[..]
+}
+
+// The groups of an address.
+fn groups_of(address: &[u8]) -> [u16; 8]
+    requires { length address.now ≡ 16 }
+    ensures { result ≡ groups address.now }
+{
+    let mut groups = [0; 8];
+    for k in 0..8 {
+        groups[k] = u16::from_be_bytes([address[2 * k], address[2 * k + 1]]);
+    }
+    groups
 }
 
 // Of the groups from one on: how many zeros they begin with, and where the longest run of zeros begins and how long it is.
@@ -33,195 +42,124 @@ struct Zeros {
     size: usize,
 }
 
-// How many zeros there are ahead, with one group more.
-fn zeros_ahead(here: usize, g: u16) -> usize
-    requires { here < 8 }
-    ensures { result ≡ ahead here g }
-{
-    if g == 0 { here + 1 } else { 0 }
-}
-
 // With one group more, which is group k, before the others.
 fn with_group(k: usize, g: u16, z: Zeros) -> Zeros
     requires { z.here < 8 }
     ensures { result ≡ with_group k g z }
 {
-    let here = zeros_ahead(z.here, g);
+    let here = if g == 0 { z.here + 1 } else { 0 };
     if z.size <= here {
-        return Zeros {
+        Zeros {
             here,
             at: k,
             size: here,
-        };
-    }
-    Zeros {
-        here,
-        at: z.at,
-        size: z.size,
+        }
+    } else {
+        Zeros { here, ..z }
     }
 }
 
 // The longest run of zero groups, the first of the longest.
-fn longest_run(src: &[u8], from: usize) -> Zeros
-    requires { from + 16 ≤ length src.now }
-    ensures { result ≡ zeros_from 0 (groups (part src.now from 16)) }
+fn longest_run(groups: &[u16]) -> Zeros
+    requires { length groups.now ≡ 8 }
+    ensures run { result ≡ zeros_from 0 groups.now }
+    ensures inside { result.at + result.size ≤ 8 }
 {
     let mut z = Zeros {
         here: 0,
         at: 8,
         size: 0,
     };
-    let mut k: usize = 8;
-    while 0 < k {
-        k -= 1;
-        z = with_group(k, group_at(src, from, k), z);
+    for k in (0..8).rev() {
+        z = with_group(k, groups[k], z);
     }
     z
 }
 
-// Whether an address is IPv4-mapped: its sixth group is ffff, and its longest run of zeros is that of the five before it.
-fn is_mapped(src: &[u8], from: usize, run: Zeros) -> bool
-    requires from_in_bounds { from + 16 ≤ length src.now }
-    requires run_value { run ≡ zeros_from 0 (groups (part src.now from 16)) }
-    ensures { result ≡ mapped (part src.now from 16) }
+// Groups in hex, with ":" between any two.
+fn put_groups(room: &mut [u8], at: usize, groups: &[u16]) -> usize
+    requires { at + length (hex_groups groups.now) ≤ length room.old }
+    ensures { Wrote room.old at (hex_groups groups.now) room.new result }
 {
-    if group_at(src, from, 5) != 0xffff {
-        return false;
+    match groups {
+        [] => at,
+        [first, further @ ..] => {
+            let mut o = put_hex(room, at, *first);
+            for g in further {
+                let p = put_byte(room, o, b':');
+                o = put_hex(room, p, *g);
+            }
+            o
+        }
     }
-    if run.at != 0 {
-        return false;
-    }
-    run.size == 5
 }
 
-// Each of n groups from group k on in hex, after a ":".
-fn put_further_groups(
-    room: &mut [u8],
-    at: usize,
-    digits: &[u8; 16],
-    src: &[u8],
-    from: usize,
-    k: usize,
-    n: usize,
-) -> usize
-    requires digits { Digits digit_byte digits.now }
-    requires from_in_bounds { (from + 16 ≤ length src.now) × (k + n ≤ 8) }
-    requires n_in_bounds { at + length (further colon (numeral 16 4) (part (groups (part src.now from 16)) k n)) ≤ length room.old }
-    ensures { Wrote room.old at (further colon (numeral 16 4) (part (groups (part src.now from 16)) k n)) room.new result }
+// How long groups are in hex, with ":" between any two.
+fn groups_length(groups: &[u16]) -> usize
+    requires { length groups.now ≤ 8 }
+    ensures { result ≡ length (hex_groups groups.now) }
 {
-    let end = k + n;
-    let mut i = k;
-    let mut o = at;
-    while i < end {
-        let g = group_at(src, from, i);
-        let p = put_byte(room, o, b':');
-        o = put_hex(room, p, digits, g);
-        i += 1;
+    match groups {
+        [] => 0,
+        [first, further @ ..] => {
+            let mut total = hex_length(*first);
+            for g in further {
+                total += 1 + hex_length(*g);
+            }
+            total
+        }
     }
-    o
 }
 
-// n groups from group k on in hex, with ":" between any two.
-fn put_groups(
-    room: &mut [u8],
-    at: usize,
-    digits: &[u8; 16],
-    src: &[u8],
-    from: usize,
-    k: usize,
-    n: usize,
-) -> usize
-    requires digits { Digits digit_byte digits.now }
-    requires from_in_bounds { (from + 16 ≤ length src.now) × (k + n ≤ 8) }
-    requires n_in_bounds { at + length (hex_groups (part (groups (part src.now from 16)) k n)) ≤ length room.old }
-    ensures { Wrote room.old at (hex_groups (part (groups (part src.now from 16)) k n)) room.new result }
+// An address in hex groups, its longest run of at least two zero groups as "::".
+fn put_hex_text(room: &mut [u8], at: usize, address: &[u8]) -> usize
+    requires sixteen_bytes { length address.now ≡ 16 }
+    requires room_enough { at + length (hex_text address.now) ≤ length room.old }
+    ensures { Wrote room.old at (hex_text address.now) room.new result }
 {
-    if n == 0 {
-        return at;
-    }
-    let g = group_at(src, from, k);
-    let p = put_hex(room, at, digits, g);
-    put_further_groups(room, p, digits, src, from, k + 1, n - 1)
-}
-
-// The IPv6 address in the 16 bytes of src from a position on in hex groups, its longest run of zeros given.
-fn put_hex_text(room: &mut [u8], at: usize, src: &[u8], from: usize, run: Zeros) -> usize
-    requires from_in_bounds { from + 16 ≤ length src.now }
-    requires run_value { run ≡ zeros_from 0 (groups (part src.now from 16)) }
-    requires room_enough { at + length (hex_text (part src.now from 16)) ≤ length room.old }
-    ensures { Wrote room.old at (hex_text (part src.now from 16)) room.new result }
-{
-    let digits = lower_hex_digits();
+    let groups = groups_of(address);
+    let run = longest_run(&groups);
     if run.size < 2 {
-        return put_groups(room, at, &digits, src, from, 0, 8);
+        return put_groups(room, at, &groups);
     }
-    let p = put_groups(room, at, &digits, src, from, 0, run.at);
+    let p = put_groups(room, at, &groups[..run.at]);
     let q = put_bytes(room, p, b"::");
-    let next = run.at + run.size;
-    put_groups(room, q, &digits, src, from, next, 8 - next)
+    put_groups(room, q, &groups[run.at + run.size..])
 }
 
-// The IPv6 address in the 16 bytes of src from a position on, by RFC 5952: in the mixed form where it is IPv4-mapped, else in hex groups.
-pub fn put_ipv6(room: &mut [u8], at: usize, src: &[u8], from: usize) -> usize
-    requires from_in_bounds { from + 16 ≤ length src.now }
-    requires room_enough { at + length (ipv6_text (part src.now from 16)) ≤ length room.old }
-    ensures { Wrote room.old at (ipv6_text (part src.now from 16)) room.new result }
+// How long an address is in hex groups.
+fn hex_text_length(address: &[u8]) -> usize
+    requires { length address.now ≡ 16 }
+    ensures { result ≡ length (hex_text address.now) }
 {
-    let run = longest_run(src, from);
-    if is_mapped(src, from, run) {
-        let p = put_bytes(room, at, b"::ffff:");
-        return put_ipv4(room, p, src, from + 12);
-    }
-    put_hex_text(room, at, src, from, run)
-}
-
-// How long n groups from group k on are in hex, each after a ":".
-fn further_length(src: &[u8], from: usize, k: usize, n: usize) -> usize
-    requires { (from + 16 ≤ length src.now) × (k + n ≤ 8) }
-    ensures { result ≡ length (further colon (numeral 16 4) (part (groups (part src.now from 16)) k n)) }
-{
-    let end = k + n;
-    let mut total: usize = 0;
-    let mut i = k;
-    while i < end {
-        total += 1 + hex_length(group_at(src, from, i));
-        i += 1;
-    }
-    total
-}
-
-// How long n groups from group k on are in hex, with ":" between any two.
-fn groups_length(src: &[u8], from: usize, k: usize, n: usize) -> usize
-    requires { (from + 16 ≤ length src.now) × (k + n ≤ 8) }
-    ensures { result ≡ length (hex_groups (part (groups (part src.now from 16)) k n)) }
-{
-    if n == 0 {
-        return 0;
-    }
-    further_length(src, from, k, n) - 1
-}
-
-// How long an IPv6 address is in hex groups, its longest run of zeros given.
-fn hex_text_length(src: &[u8], from: usize, run: Zeros) -> usize
-    requires from_in_bounds { from + 16 ≤ length src.now }
-    requires run_value { run ≡ zeros_from 0 (groups (part src.now from 16)) }
-    ensures { result ≡ length (hex_text (part src.now from 16)) }
-{
+    let groups = groups_of(address);
+    let run = longest_run(&groups);
     if run.size < 2 {
-        return groups_length(src, from, 0, 8);
+        return groups_length(&groups);
     }
-    let next = run.at + run.size;
-    groups_length(src, from, 0, run.at) + 2 + groups_length(src, from, next, 8 - next)
+    groups_length(&groups[..run.at]) + 2 + groups_length(&groups[run.at + run.size..])
+}
+
+// An IPv6 address, by RFC 5952: in the mixed form where it is IPv4-mapped, else in hex groups.
+pub fn put_ipv6(room: &mut [u8], at: usize, address: &[u8]) -> usize
+    requires sixteen_bytes { length address.now ≡ 16 }
+    requires room_enough { at + length (ipv6_text address.now) ≤ length room.old }
+    ensures { Wrote room.old at (ipv6_text address.now) room.new result }
+{
+    if is_mapped(address) {
+        let p = put_bytes(room, at, b"::ffff:");
+        return put_ipv4(room, p, &address[12..]);
+    }
+    put_hex_text(room, at, address)
 }
 
 // How long the text of an IPv6 address is.
-pub fn ipv6_length(src: &[u8], from: usize) -> usize
-    requires { from + 16 ≤ length src.now }
-    ensures { result ≡ length (ipv6_text (part src.now from 16)) }
+pub fn ipv6_length(address: &[u8]) -> usize
+    requires { length address.now ≡ 16 }
+    ensures { result ≡ length (ipv6_text address.now) }
 {
-    let run = longest_run(src, from);
-    if is_mapped(src, from, run) {
-        return 7 + ipv4_length(src, from + 12);
+    if is_mapped(address) {
+        return 7 + ipv4_length(&address[12..]);
     }
-    hex_text_length(src, from, run)
+    hex_text_length(address)
 }

@@ -4,197 +4,130 @@
 mod room;
 
 use cbor::Span;
-use components::{
-    Authority, Components, Fragment, Opening, Scheme, Spans, Texts, label_count, text_count,
-    text_span,
-};
-use numbers::{BASE, SPANS};
-use output::{Output, add_byte, add_hex, add_number, add_text, least};
-use reader::Port;
-use refusals::{Refusal, Verdict};
+use components::{Authority, Components, Host, Opening, Scheme, Spans, text_span};
+use numbers::SPANS;
+use output::Output;
+use refusals::{Reason, Refusal};
 pub use room::{add_outcome, fill};
+use std::ops::Range;
 
 // The bytes in hex, or "-" where there are none.
-fn add_bytes(out: &mut Output, used: usize, s: &[u8]) -> usize {
-    if s.len() == 0 {
-        return add_byte(out, used, b'-');
+fn add_bytes(out: &mut Output, s: &[u8]) {
+    if s.is_empty() {
+        out.byte(b'-');
+    } else {
+        out.hex(s);
     }
-    add_hex(out, used, s)
 }
 
 // The bytes of a span, where it lies inside s.
-fn add_span(out: &mut Output, used: usize, s: &[u8], span: Span) -> usize {
-    let start = span.start;
-    if start <= s.len() {
-        if span.length <= s.len() - start {
-            let end = start + span.length;
-            return add_bytes(out, used, &s[start..end]);
-        }
-    }
-    add_text(out, used, b"? span outside")
-}
-
-// As many texts as a count says, at most SPANS, each after a name: those of Spans from the `first` on.
-fn add_texts(
-    out: &mut Output,
-    used: usize,
-    s: &[u8],
-    spans: &Spans,
-    first: usize,
-    count: usize,
-    name: &[u8],
-) -> usize {
-    let from = least(first, SPANS);
-    let n = least(count, SPANS);
-    let mut at = used;
-    let mut i = 0;
-    while i < n {
-        let named = add_text(out, at, name);
-        at = add_span(out, named, s, text_span(spans, from + i));
-        i += 1;
-    }
-    at
-}
-
-fn add_port(out: &mut Output, used: usize, port: Port) -> usize {
-    match port {
-        Port::Unset => used,
-        Port::Is(n) => {
-            let at = add_text(out, used, b" port ");
-            add_number(out, at, n)
-        }
+fn add_span(out: &mut Output, s: &[u8], span: Span) {
+    match s.get(span.start..).and_then(|rest| rest.get(..span.length)) {
+        Some(part) => add_bytes(out, part),
+        None => out.text(b"? span outside"),
     }
 }
 
-fn add_scheme(out: &mut Output, used: usize, s: &[u8], scheme: Scheme) -> usize {
-    match scheme {
-        Scheme::Unset => add_text(out, used, b" scheme none"),
-        Scheme::Number(n) => {
-            let at = add_text(out, used, b" scheme number ");
-            add_number(out, at, n)
-        }
-        Scheme::Name(span) => {
-            let at = add_text(out, used, b" scheme text ");
-            add_span(out, at, s, span)
-        }
-    }
+// A link whose components are told, each word after a space.
+#[derive(Drop)]
+struct Link<'a> {
+    bytes: &'a [u8],
+    spans: &'a Spans,
+    // The texts in Spans that are not told yet.
+    texts: Range<usize>,
 }
 
-fn add_authority(
-    out: &mut Output,
-    used: usize,
-    s: &[u8],
-    spans: &Spans,
-    authority: Authority,
-) -> usize {
-    match authority {
-        Authority::Unset => used,
-        Authority::Address(span, port) => {
-            let at = add_text(out, used, b" authority address ");
-            let end = add_span(out, at, s, span);
-            add_port(out, end, port)
+impl Link<'_> {
+    fn add_span(&self, out: &mut Output, name: &[u8], span: Span) {
+        out.text(name);
+        add_span(out, self.bytes, span);
+    }
+
+    // The next texts, as many as a count says, each after a name.
+    fn add_texts(&mut self, out: &mut Output, name: &[u8], count: usize) {
+        let spans = self.spans;
+        for k in self.texts.by_ref().take(count) {
+            out.text(name);
+            add_span(out, self.bytes, text_span(spans, k));
         }
-        Authority::Labels(count, port) => {
-            let at = add_text(out, used, b" authority");
-            let end = add_texts(out, at, s, spans, 0, count, b" label ");
-            add_port(out, end, port)
+    }
+
+    fn add_scheme(&self, out: &mut Output, scheme: Option<Scheme>) {
+        match scheme {
+            None => out.text(b" scheme none"),
+            Some(Scheme::Number(n)) => write!(out, " scheme number {n}"),
+            Some(Scheme::Name(span)) => self.add_span(out, b" scheme text ", span),
+        }
+    }
+
+    fn add_authority(&mut self, out: &mut Output, authority: Authority) {
+        out.text(b" authority");
+        match authority.host {
+            Host::Address(span) => self.add_span(out, b" address ", span),
+            Host::Labels(count) => self.add_texts(out, b" label ", count),
+        }
+        if let Some(port) = authority.port {
+            write!(out, " port {port}");
+        }
+    }
+
+    fn add_opening(&mut self, out: &mut Output, opening: Opening) {
+        match opening {
+            Opening::Discard(n) => write!(out, " discard {n}"),
+            Opening::DiscardAll => out.text(b" discard all"),
+            Opening::Full(scheme, authority) => {
+                self.add_scheme(out, scheme);
+                if let Some(authority) = authority {
+                    self.add_authority(out, authority);
+                }
+            }
+        }
+    }
+
+    // A path or a query: its name, and each text after another.
+    fn add_slot(&mut self, out: &mut Output, name: &[u8], text: &[u8], slot: Option<usize>) {
+        if let Some(count) = slot {
+            out.text(name);
+            self.add_texts(out, text, count);
         }
     }
 }
 
-fn add_opening(out: &mut Output, used: usize, s: &[u8], spans: &Spans, opening: Opening) -> usize {
-    match opening {
-        Opening::Discard(k) => {
-            let at = add_text(out, used, b" discard ");
-            add_number(out, at, k)
-        }
-        Opening::DiscardAll => add_text(out, used, b" discard all"),
-        Opening::Full(scheme, authority) => {
-            let at = add_scheme(out, used, s, scheme);
-            add_authority(out, at, s, spans, authority)
-        }
-    }
-}
-
-// A path or a query, whose texts are those of Spans from the `first` on: its name, and each text after its own.
-fn add_slot(
-    out: &mut Output,
-    used: usize,
-    s: &[u8],
-    spans: &Spans,
-    first: usize,
-    texts: Texts,
-    name: &[u8],
-    text: &[u8],
-) -> usize {
-    match texts {
-        Texts::Unset => used,
-        Texts::Set(count) => {
-            let at = add_text(out, used, name);
-            add_texts(out, at, s, spans, first, count, text)
-        }
-    }
-}
-
-fn add_fragment(out: &mut Output, used: usize, s: &[u8], fragment: Fragment) -> usize {
-    match fragment {
-        Fragment::Unset => used,
-        Fragment::Is(span) => {
-            let at = add_text(out, used, b" fragment ");
-            add_span(out, at, s, span)
-        }
-    }
-}
-
-// Each word after a space.
-pub fn add_components(
-    out: &mut Output,
-    used: usize,
-    s: &[u8],
-    spans: &Spans,
-    c: Components,
-) -> usize {
-    let opening = c.opening;
-    let path = c.path;
-    let query = c.query;
-    let fragment = c.fragment;
-    let segments = least(label_count(opening), SPANS);
-    let parameters = segments + least(text_count(path), SPANS);
-    let a = add_opening(out, used, s, spans, opening);
-    let b = add_slot(out, a, s, spans, segments, path, b" path", b" segment ");
-    let d = add_slot(
-        out,
-        b,
-        s,
+// The components of a link, each word after a space.
+pub fn add_components(out: &mut Output, bytes: &[u8], spans: &Spans, c: Components) {
+    let mut link = Link {
+        bytes,
         spans,
-        parameters,
-        query,
-        b" query",
-        b" parameter ",
-    );
-    add_fragment(out, d, s, fragment)
+        texts: 0..SPANS,
+    };
+    link.add_opening(out, c.opening);
+    link.add_slot(out, b" path", b" segment ", c.path);
+    link.add_slot(out, b" query", b" parameter ", c.query);
+    if let Some(span) = c.fragment {
+        link.add_span(out, b" fragment ", span);
+    }
 }
 
 // A refusal: its number, and of 1 to 8 its place.
-pub fn add_refusal(out: &mut Output, used: usize, refusal: Refusal) -> usize {
-    let number = add_number(out, used, refusal.number as u64);
-    if BASE < refusal.number {
-        return number;
+pub fn add_refusal(out: &mut Output, refusal: Refusal) {
+    let number = refusal.reason as u8;
+    out.number(u64::from(number));
+    if number <= Reason::Base as u8 {
+        write!(out, " at {}", refusal.place);
     }
-    let at = add_text(out, number, b" at ");
-    add_number(out, at, refusal.place as u64)
 }
 
-fn add_verdict(out: &mut Output, used: usize, verdict: Verdict) -> usize {
-    match verdict {
-        Verdict::Accepted => add_byte(out, used, b'0'),
-        Verdict::Refused(refusal) => add_refusal(out, used, refusal),
+// Whether a call refused, and why.
+pub(crate) fn add_verdict<T: Drop>(out: &mut Output, answer: Result<T, Refusal>) {
+    match answer {
+        Ok(_) => out.byte(b'0'),
+        Err(refusal) => add_refusal(out, refusal),
     }
 }
 
 // The answer of a view: its verdict and its bytes.
-pub fn add_view(out: &mut Output, used: usize, verdict: Verdict, view: &[u8]) -> usize {
-    let space = add_verdict(out, used, verdict);
-    let bytes = add_byte(out, space, b' ');
-    add_bytes(out, bytes, view)
+pub fn add_view(out: &mut Output, verdict: Result<(), Refusal>, view: &[u8]) {
+    add_verdict(out, verdict);
+    out.byte(b' ');
+    add_bytes(out, view);
 }

@@ -1,46 +1,5 @@
-// The numbers of docs/RULES.md: refusals (3.2) and sizes (section 2).
+// The sizes of docs/RULES.md, section 2.
 #![tactic(auto)]
-
-// ---- refusals
-
-// The bytes end inside the array; empty input.
-pub const CUT: u8 = 1;
-
-// An item of a kind, or a count of outer items, that is not allowed at its place; a final null; the array of only 0.
-pub const FORM: u8 = 2;
-
-// A head that is indefinite, reserved or not the shortest.
-pub const HEAD: u8 = 3;
-
-// A number, length or count outside its range.
-pub const LIMIT: u8 = 4;
-
-// Not UTF-8.
-pub const TEXT: u8 = 5;
-
-// A scheme number that is not in the table; a broken rule of a scheme, a label, a segment or all labels.
-pub const RULE: u8 = 6;
-
-// Bytes after the array.
-pub const TAIL: u8 = 7;
-
-// A base that the reader refuses or that is not absolute; text or options asked of a reference that is not absolute.
-pub const BASE: u8 = 8;
-
-// A resolved CRI with too many segments or bytes.
-pub const RESULT: u8 = 9;
-
-// An output longer than the room.
-pub const ROOM: u8 = 10;
-
-// Options asked of a scheme that is not one of the six, or where a fragment is set.
-pub const COAP: u8 = 11;
-
-// A destination address that has not 4 or 16 bytes.
-pub const DEST: u8 = 12;
-
-// A view of a path segment that is not there.
-pub const NONE: u8 = 18;
 
 // ---- sizes: the largest that is accepted
 

@@ -5,9 +5,10 @@ use native.Mathlib.Nat.{pow-suc, pow-zero, one-mul, mul_comm, one-le-pow, mul-le
 use mathlib.Core.Path.{◌≡◌, refl, sym, ap, ◌∙◌, subst}
 use mathlib.Core.Bool.{Bool, true, false, cond}
 use mathlib.Core.List.{[], ◌∷◌, ◌++◌, append_assoc}
-use lib.Dec.{ltb, lit≤}
+use lib.Dec.{leb, ltb, lit≤}
+use mir.Val.{bool_byte}
 use lib.ListN.{length, length-append}
-use borrow.Author.Tests.{lt-ltb, le-ltb, ltb-true, ltb-false}
+use borrow.Author.Tests.{lt-ltb, le-ltb, ltb-true, ltb-false, leb-true, leb-false}
 use Rattle.rules.specs.Bytes.{Bytes}
 use Rattle.rules.specs.Numeral.{digit_byte, numeral, decimal}
 use Rattle.rules.proofs.Tools.{by_test}
@@ -82,6 +83,13 @@ pub hex_scaled : (n : ℕ) → n < 65536 → numeral 16 4 n ≡ scaled 16 3 n
 hex_scaled n h = numeral_scaled 16 (lit≤ tt) 3 n h
 
 -- how long they are, digit by digit
+pub length_digit : (base scale n : ℕ) → length (digit_at base scale n) ≡ bool_byte (leb scale n)
+length_digit base scale n =
+    by_test (λ t. leb scale n ≡ t → length (digit_at base scale n) ≡ bool_byte t) (leb scale n)
+    (λ e h. ap length (digit_one base scale n (leb-true scale n e)))
+    (λ e h. ap length (digit_none base scale n (leb-false scale n e)))
+    refl
+
 pub length_decimal : (n : ℕ) → n < 65536
     → length (decimal n) ≡ length (digit_at 10 10000 n) + (length (digit_at 10 1000 n) + (length (digit_at 10 100 n) + (length (digit_at 10 10 n) + 1)))
 unfolding scaled

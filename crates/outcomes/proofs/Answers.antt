@@ -3,9 +3,14 @@ use Prim.Native.Nat.{ℕ, ◌<◌, ◌≤◌}
 use mathlib.Core.Path.{◌≡◌, ap, ◌∙◌}
 use lib.ListN.{length}
 use borrow.Author.Tests.{lt-ltb, le-ltb}
+use Rattle.std.specs.Prelude.{Result, Ok, Err}
+use Rattle.std.specs.Result.{IsErrAnd}
 use Rattle.rules.specs.Bytes.{Bytes}
 use Rattle.rules.specs.Result.{Res, refused, ok, ROOM}
 use Rattle.rules.specs.Calls.{outcome, after}
+use Rattle.refusals.specs.declared.Refusal.{Refusal}
+use Rattle.refusals.specs.Answers.{number_of, refusal_is}
+use Rattle.outcomes.specs.Answers.{outcome_is}
 use Rattle.put.specs.Wrote.{Wrote}
 use Rattle.put.proofs.Wrote.{wrote_all}
 
@@ -18,6 +23,11 @@ pub record Right (u : Res Bytes) (room : Bytes) (answer : Res ℕ) (left : Bytes
 pub right_refused : {u : Res Bytes} {room : Bytes} (n k : ℕ) → u ≡ refused n k → Right u room (refused n k) room
 unfolding outcome after
 right_refused n k e = record { answered = rw e; holds = rw e }
+
+-- nothing is written, since a call before was refused, and the function left by `?`
+pub right_left : {u : Res Bytes} {room : Bytes} (x : Refusal) (r : Result ℕ Refusal) → IsErrAnd r (λ e. e ≡ x) → u ≡ refusal_is x → Right u room (outcome_is r) room
+right_left x (Ok n) h e = absurd h
+right_left x (Err y) h e = rw h (right_refused (number_of x.reason) x.place e)
 
 -- nothing is written, since the room is shorter
 pub right_full : {u : Res Bytes} {room : Bytes} (w : Bytes) → u ≡ ok w → length room < length w → Right u room (refused ROOM 0) room

@@ -2,36 +2,21 @@
 #![tactic(auto)]
 
 ghost use Rattle.std.specs.Prelude.{◌≡◌, length};
-ghost use Rattle.rules.specs.Result.{refused, ok};
+ghost use Rattle.rules.specs.Result.{ok};
 ghost use Rattle.rules.specs.Calls.{length_of, outcome, after};
 ghost use Rattle.outcomes.specs.Answers.{outcome_is};
 
-use numbers::ROOM;
 use put::put_bytes;
-use refusals::Refusal;
+use refusals::{Refusal, refuse};
 
 // How many bytes were written; or the refusal, which leaves the room as it was.
-#[derive(Clone, Copy)]
-pub enum Outcome {
-    Written(usize),
-    Refused(Refusal),
-}
-
-// The answer that leaves the room as it was.
-pub fn refused(number: u8, place: usize) -> Outcome
-    ensures { outcome_is result ≡ refused number place }
-{
-    Outcome::Refused(Refusal { number, place })
-}
+pub type Outcome = Result<usize, Refusal>;
 
 // How many bytes were written: none after a refusal.
 pub fn written(outcome: Outcome) -> usize
     ensures { result ≡ length_of (outcome_is outcome) }
 {
-    match outcome {
-        Outcome::Written(n) => n,
-        Outcome::Refused(_) => 0,
-    }
+    outcome.unwrap_or(0)
 }
 
 // Bytes that are ready, copied into the room; 10 where it is shorter.
@@ -40,7 +25,7 @@ pub fn copied(s: &[u8], room: &mut [u8]) -> Outcome
     ensures room_after { room.new ≡ after (ok s.now) room.old }
 {
     if room.len() < s.len() {
-        return refused(ROOM, 0);
+        refuse!(Room, 0);
     }
-    Outcome::Written(put_bytes(room, 0, s))
+    Ok(put_bytes(room, 0, s))
 }

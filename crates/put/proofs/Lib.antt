@@ -1,4 +1,4 @@
 pub mod Joined
 pub mod Wrote
-pub mod RowTurns
+pub mod Turns
 pub mod Tables

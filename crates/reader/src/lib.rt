@@ -1,907 +1,576 @@
 // Where everything stands in a CRI reference: one pass over any bytes, left to right, to the first fault or to the end.
 #![tactic(auto)]
 
-ghost use Rattle.std.specs.Prelude.{◌≡◌, ◌&&◌, ◌||◌, ℕ, ◌+◌, ◌-◌, ◌≤◌, ◌<◌, length, eqb};
+ghost use Rattle.std.specs.Prelude.{◌≡◌, true, ◌||◌, ℕ, ◌+◌, ◌≤◌, ◌<◌, length};
 ghost use Rattle.rules.specs.Bytes.{Bytes};
+ghost use Rattle.rules.specs.Result.{ok};
 ghost use Rattle.rules.specs.Model.{limits};
 ghost use Rattle.rules.specs.Rules.{address_size};
-ghost use Rattle.rules.specs.Head.{Number, Negative, ByteString, Text, Array, True, Null, is, read_head};
+ghost use Rattle.rules.specs.Head.{Number, Negative, ByteString, Text, True, is, read_head};
 ghost use Rattle.rules.specs.Reader as R;
-ghost use Rattle.cbor.specs.Heads.{allows, accepted};
-ghost use Rattle.texts.specs.Answers.{sort_is, step_is};
-ghost use Rattle.reader.specs.Answers.{head_is, row_end_is, slot_is, names_is, scheme_of, authority_is, read_host, opening_of, opened_is, first_is, found_of, answer_is, read_end, read_rest, read_items};
+ghost use Rattle.refusals.specs.Answers.{answer_is};
+ghost use Rattle.cbor.specs.Heads.{head_is};
+ghost use Rattle.texts.specs.Answers.{sort_is};
+ghost use Rattle.reader.specs.Answers.{unset_before, set_before, slot_is, fragment_is, names_is, scheme_of, authority_of, read_host, opening_of, opened_is, first_is, found_of, read_rest};
 
-use cbor::{Item, Kinds};
+use cbor::{Head, Kind, Kinds, Span, head_at};
 use numbers::{
-    AUTHORITY_ITEMS, BYTES, CUT, DISCARD, DISCARD_ITEMS, FORM, ITEMS, LABELS, LIMIT, PARAMETERS,
-    PORT, RULE, SEGMENTS, TAIL,
+    AUTHORITY_ITEMS, BYTES, DISCARD, DISCARD_ITEMS, ITEMS, LABELS, PARAMETERS, PORT, SEGMENTS,
 };
-use refusals::Refusal;
-use schemes::{SchemeId, SchemeNumber, scheme_id, scheme_number};
-use texts::{Sort, Step};
+use refusals::{Refusal, refuse};
+use schemes::{scheme_id, scheme_number};
+use texts::{Sort, scheme_body, text_body};
 
 // ---- answers
 
-// Path, query or fragment: unset; or the position of its first text and how many texts it has (of a fragment: of its bytes and how many).
-#[derive(Clone, Copy)]
-pub enum Slot {
-    Unset,
-    Set { at: usize, count: usize },
+// Texts that stand in a row: the position of the first, and how many there are.
+#[derive(Clone, Copy, Debug, PartialEq, Eq)]
+pub struct Row {
+    pub at: usize,
+    pub count: usize,
 }
 
-// The position of an address and its length; or of the first label and how many labels there are.
-#[derive(Clone, Copy)]
+// Where an address stands; or the labels.
+#[derive(Clone, Copy, Debug, PartialEq, Eq)]
 pub enum HostAt {
-    Address { at: usize, length: usize },
-    Labels { at: usize, count: usize },
-}
-
-#[derive(Clone, Copy)]
-pub enum Port {
-    Unset,
-    Is(u64),
+    Address(Span),
+    Labels(Row),
 }
 
 // The first byte of an authority, what it says, and the position after it.
-#[derive(Clone, Copy)]
+#[derive(Clone, Copy, Debug, PartialEq, Eq)]
 pub struct AuthorityAt {
     pub at: usize,
     pub host: HostAt,
-    pub port: Port,
+    pub port: Option<u64>,
     pub next: usize,
 }
 
-// A scheme's number; or the position of its name and the name's length.
-#[derive(Clone, Copy)]
-pub enum SchemeAt {
-    Unset,
+// A scheme's number; or where its name stands.
+#[derive(Clone, Copy, Debug, PartialEq, Eq)]
+pub enum Scheme {
     Number(u64),
-    Name { at: usize, length: usize },
+    Name(Span),
 }
 
-#[derive(Clone, Copy)]
+#[derive(Clone, Copy, Debug, PartialEq, Eq)]
 pub enum OpeningAt {
     Discard(u64),
     DiscardAll,
-    Full(SchemeAt, AuthorityAt),
+    Full(Option<Scheme>, AuthorityAt),
 }
 
 // Where everything stands.
-#[derive(Clone, Copy)]
+#[derive(Clone, Copy, Debug, PartialEq, Eq)]
 pub struct Found {
     pub opening: OpeningAt,
-    pub path: Slot,
-    pub query: Slot,
-    pub fragment: Slot,
-}
-
-// What was found; or the refusal.
-#[derive(Clone, Copy)]
-pub enum Answer {
-    Is(Found),
-    Refused(Refusal),
-}
-
-// A head's number and the position after it.
-#[derive(Drop)]
-enum Head {
-    Is { value: u64, next: usize },
-    Refused(Refusal),
-}
-
-// The position after texts that stand in a row.
-#[derive(Drop)]
-enum RowEnd {
-    At(usize),
-    Refused(Refusal),
-}
-
-// A slot, and the position after it.
-#[derive(Drop)]
-enum SlotAt {
-    Is { slot: Slot, next: usize },
-    Refused(Refusal),
+    pub path: Option<Row>,
+    pub query: Option<Row>,
+    pub fragment: Option<Span>,
 }
 
 // How many labels there are, the port, and the position after it.
 #[derive(Drop)]
-enum Names {
-    Are {
-        count: usize,
-        port: Port,
-        next: usize,
-    },
-    Refused(Refusal),
+struct Names {
+    count: usize,
+    port: Option<u64>,
+    next: usize,
 }
 
-#[derive(Drop)]
-enum Authority {
-    Is(AuthorityAt),
-    Refused(Refusal),
-}
-
-// The first item and the position after it: a discard; or a scheme, which the authority follows. Or a refusal's number, whose place is the item's.
+// The first item: a discard; or a scheme, which the authority follows.
 #[derive(Drop)]
 enum First {
-    Discard { opening: OpeningAt, next: usize },
-    Scheme { scheme: SchemeAt, next: usize },
-    Refused(u8),
+    Discard(OpeningAt),
+    Scheme(Option<Scheme>),
 }
 
 // The opening, the position after it, and how many items are left.
 #[derive(Drop)]
-enum Opened {
-    Is {
-        opening: OpeningAt,
-        next: usize,
-        left: usize,
-    },
-    Refused(Refusal),
+struct Opened {
+    opening: OpeningAt,
+    next: usize,
+    left: usize,
 }
 
 // ---- the kinds of items that are allowed at a place
 
-fn only_text() -> Kinds
-    ensures { allows result ≡ is Text }
-{
-    Kinds {
-        number: false,
-        negative: false,
-        byte_string: false,
-        text: true,
-        array: false,
-        yes: false,
-        null: false,
-    }
-}
+const NOTHING: Kinds = Kinds {
+    number: false,
+    negative: false,
+    byte_string: false,
+    text: false,
+    array: false,
+    yes: false,
+    null: false,
+};
 
-fn only_array() -> Kinds
-    ensures { allows result ≡ is Array }
-{
-    Kinds {
-        number: false,
-        negative: false,
-        byte_string: false,
-        text: false,
-        array: true,
-        yes: false,
-        null: false,
-    }
-}
+const TEXT: Kinds = Kinds {
+    text: true,
+    ..NOTHING
+};
 
-fn only_number() -> Kinds
-    ensures { allows result ≡ is Number }
-{
-    Kinds {
-        number: true,
-        negative: false,
-        byte_string: false,
-        text: false,
-        array: false,
-        yes: false,
-        null: false,
-    }
-}
+const ARRAY: Kinds = Kinds {
+    array: true,
+    ..NOTHING
+};
 
-fn array_or_null() -> Kinds
-    ensures { allows result ≡ (λ k. is Array k || is Null k) }
-{
-    Kinds {
-        number: false,
-        negative: false,
-        byte_string: false,
-        text: false,
-        array: true,
-        yes: false,
-        null: true,
-    }
-}
+const NUMBER: Kinds = Kinds {
+    number: true,
+    ..NOTHING
+};
 
-fn text_or_null() -> Kinds
-    ensures { allows result ≡ (λ k. is Text k || is Null k) }
-{
-    Kinds {
-        number: false,
-        negative: false,
-        byte_string: false,
-        text: true,
-        array: false,
-        yes: false,
-        null: true,
-    }
-}
+const ARRAY_OR_NULL: Kinds = Kinds {
+    array: true,
+    null: true,
+    ..NOTHING
+};
 
-fn text_or_number() -> Kinds
-    ensures { allows result ≡ (λ k. is Text k || is Number k) }
-{
-    Kinds {
-        number: true,
-        negative: false,
-        byte_string: false,
-        text: true,
-        array: false,
-        yes: false,
-        null: false,
-    }
-}
+const TEXT_OR_NULL: Kinds = Kinds {
+    text: true,
+    null: true,
+    ..NOTHING
+};
 
-fn address_or_label() -> Kinds
-    ensures { allows result ≡ (λ k. is ByteString k || is Text k) }
-{
-    Kinds {
-        number: false,
-        negative: false,
-        byte_string: true,
-        text: true,
-        array: false,
-        yes: false,
-        null: false,
-    }
-}
+const TEXT_OR_NUMBER: Kinds = Kinds {
+    text: true,
+    number: true,
+    ..NOTHING
+};
 
-fn may_open() -> Kinds
-    ensures { allows result ≡ R.opens }
-{
-    Kinds {
-        number: true,
-        negative: true,
-        byte_string: false,
-        text: true,
-        array: false,
-        yes: true,
-        null: true,
-    }
-}
+const ADDRESS_OR_LABEL: Kinds = Kinds {
+    byte_string: true,
+    text: true,
+    ..NOTHING
+};
+
+const OPENINGS: Kinds = Kinds {
+    byte_string: false,
+    array: false,
+    number: true,
+    negative: true,
+    text: true,
+    yes: true,
+    null: true,
+};
 
 // ---- texts
 
-fn array_head(s: &[u8], at: usize) -> Head
-    ensures { head_is result ≡ read_head (is Array) s.now at }
+fn text_at(s: &[u8], at: usize, sort: Sort) -> Result<usize, Refusal>
+    ensures { answer_is (λ n. n) result ≡ R.read_text (sort_is sort) s.now at }
 {
-    match cbor::item_at(s, at, only_array()) {
-        Item::Array { count: n, next } => Head::Is { value: n, next },
-        Item::Refused(n) => Head::Refused(Refusal {
-            number: n,
-            place: at,
-        }),
-        _ => Head::Refused(Refusal {
-            number: FORM,
-            place: at,
-        }),
-    }
+    let head = head_at(s, at, TEXT)?;
+    text_body(s, at, head, sort)
 }
 
-fn text_at(s: &[u8], at: usize, sort: Sort) -> Step
-    ensures { step_is at result ≡ R.read_text (sort_is sort) s.now at }
-{
-    match cbor::item_at(s, at, only_text()) {
-        Item::Text { length: n, next } => texts::text_body(s, next, n, sort),
-        Item::Refused(n) => Step::Refused(n),
-        _ => Step::Refused(FORM),
-    }
-}
-
-fn row_at(s: &[u8], at: usize, count: usize, sort: Sort) -> RowEnd
-    ensures { row_end_is result ≡ R.read_row (sort_is sort) s.now at count }
+// Texts that stand in a row: the position after them.
+fn row_at(s: &[u8], at: usize, count: usize, sort: Sort) -> Result<usize, Refusal>
+    ensures { answer_is (λ n. n) result ≡ R.read_row (sort_is sort) s.now at count }
 {
     let mut here = at;
-    let mut left = count;
-    while 0 < left {
-        match text_at(s, here, sort) {
-            Step::Refused(n) => return RowEnd::Refused(Refusal {
-                number: n,
-                place: here, // of the text
-            }),
-            Step::Next(next) => {
-                here = next;
-                left -= 1;
-            }
-        }
+    for i in 0..count {
+        here = text_at(s, here, sort)?;
     }
-    RowEnd::At(here)
+    Ok(here)
 }
 
-// ---- path, query, fragment
+// ---- path, query, fragment: where it stands, if it is set, and the position after it
 
 // Null, after which `left` items are left: never the last.
-fn null_body(at: usize, left: usize, next: usize) -> SlotAt
-    ensures { slot_is result ≡ R.null_body at left (record { kind = Null; value = 22; next = next }) }
+fn null_body(at: usize, left: usize, head: Head) -> Result<usize, Refusal>
+    ensures { answer_is unset_before result ≡ R.null_body at left (head_is head) }
 {
     if left == 0 {
-        return SlotAt::Refused(Refusal {
-            number: FORM,
-            place: at,
-        });
+        refuse!(Form, at);
     }
-    SlotAt::Is {
-        slot: Slot::Unset,
-        next,
-    }
+    Ok(head.next)
 }
 
 // An array of low to high texts, whose head has been read.
-fn array_body(s: &[u8], at: usize, sort: Sort, low: u64, high: u64, n: u64, next: usize) -> SlotAt
-    ensures { slot_is result ≡ R.array_body (sort_is sort) low high s.now at (record { kind = Array; value = n; next = next }) }
+fn array_body(
+    s: &[u8],
+    at: usize,
+    head: Head,
+    sort: Sort,
+    low: u64,
+    high: u64,
+) -> Result<(Row, usize), Refusal>
+    ensures { answer_is set_before result ≡ R.array_body (sort_is sort) low high s.now at (head_is head) }
 {
-    if n < low {
-        return SlotAt::Refused(Refusal {
-            number: LIMIT,
-            place: at,
-        });
+    if head.value < low || high < head.value {
+        refuse!(Limit, at);
     }
-    if high < n {
-        return SlotAt::Refused(Refusal {
-            number: LIMIT,
-            place: at,
-        });
-    }
-    let count = n as usize;
-    match row_at(s, next, count, sort) {
-        RowEnd::Refused(refusal) => SlotAt::Refused(refusal),
-        RowEnd::At(end) => SlotAt::Is {
-            slot: Slot::Set { at: next, count },
-            next: end,
+    let count = head.value as usize;
+    let next = row_at(s, head.next, count, sort)?;
+    Ok((
+        Row {
+            at: head.next,
+            count,
         },
-    }
+        next,
+    ))
 }
 
 // An array of low to high texts, or null, or nothing where no item is left.
-fn array_at(s: &[u8], at: usize, left: usize, sort: Sort, low: u64, high: u64) -> SlotAt
-    ensures { slot_is result ≡ R.read_array (sort_is sort) low high s.now at left }
+fn array_at(
+    s: &[u8],
+    at: usize,
+    left: usize,
+    sort: Sort,
+    low: u64,
+    high: u64,
+) -> Result<(Option<Row>, usize), Refusal>
+    ensures { answer_is slot_is result ≡ R.read_array (sort_is sort) low high s.now at left }
 {
     if left == 0 {
-        return SlotAt::Is {
-            slot: Slot::Unset,
-            next: at,
-        };
+        return Ok((None, at));
     }
-    match cbor::item_at(s, at, array_or_null()) {
-        Item::Array { count: n, next } => array_body(s, at, sort, low, high, n, next),
-        Item::Null(next) => null_body(at, left - 1, next),
-        Item::Refused(n) => SlotAt::Refused(Refusal {
-            number: n,
-            place: at,
-        }),
-        _ => SlotAt::Refused(Refusal {
-            number: FORM,
-            place: at,
-        }),
+    let head = head_at(s, at, ARRAY_OR_NULL)?;
+    if head.is(Kind::Null) {
+        let next = null_body(at, left - 1, head)?;
+        return Ok((None, next));
     }
-}
-
-fn fragment_body(s: &[u8], at: usize, n: u64, next: usize) -> SlotAt
-    requires { next ≤ length s.now }
-    ensures { slot_is result ≡ R.fragment_body s.now at (record { kind = Text; value = n; next = next }) }
-{
-    match texts::text_body(s, next, n, Sort::Fragment) {
-        Step::Refused(k) => SlotAt::Refused(Refusal {
-            number: k,
-            place: at,
-        }),
-        Step::Next(end) => SlotAt::Is {
-            slot: Slot::Set {
-                at: next,
-                count: n as usize,
-            },
-            next: end,
-        },
-    }
+    let (row, next) = array_body(s, at, head, sort, low, high)?;
+    Ok((Some(row), next))
 }
 
 // A text, or null, or nothing where no item is left.
-fn fragment_at(s: &[u8], at: usize, left: usize) -> SlotAt
-    ensures { slot_is result ≡ R.read_fragment s.now at left }
+fn fragment_at(s: &[u8], at: usize, left: usize) -> Result<(Option<Span>, usize), Refusal>
+    ensures { answer_is fragment_is result ≡ R.read_fragment s.now at left }
 {
     if left == 0 {
-        return SlotAt::Is {
-            slot: Slot::Unset,
-            next: at,
-        };
+        return Ok((None, at));
     }
-    match cbor::item_at(s, at, text_or_null()) {
-        Item::Text { length: n, next } => fragment_body(s, at, n, next),
-        Item::Null(next) => null_body(at, left - 1, next),
-        Item::Refused(n) => SlotAt::Refused(Refusal {
-            number: n,
-            place: at,
-        }),
-        _ => SlotAt::Refused(Refusal {
-            number: FORM,
-            place: at,
-        }),
+    let head = head_at(s, at, TEXT_OR_NULL)?;
+    if head.is(Kind::Null) {
+        let next = null_body(at, left - 1, head)?;
+        return Ok((None, next));
     }
+    let next = text_body(s, at, head, Sort::Fragment)?;
+    let span = Span {
+        start: head.next,
+        length: head.value as usize,
+    };
+    Ok((Some(span), next))
 }
 
 // ---- authority
 
 // Nothing may stand after the port.
-fn nothing_at(s: &[u8], at: usize, left: usize) -> RowEnd
-    ensures { row_end_is result ≡ R.read_nothing s.now at left }
+fn nothing_at(s: &[u8], at: usize, left: usize) -> Result<usize, Refusal>
+    ensures { answer_is (λ n. n) result ≡ R.read_nothing s.now at left }
 {
     if left == 0 {
-        return RowEnd::At(at);
+        return Ok(at);
     }
     if s.len() <= at {
-        return RowEnd::Refused(Refusal {
-            number: CUT,
-            place: at,
-        });
+        refuse!(Cut, at);
     }
-    RowEnd::Refused(Refusal {
-        number: FORM,
-        place: at,
-    })
+    refuse!(Form, at);
 }
 
 // A port, whose head has been read, after `count` labels.
-fn port_body(s: &[u8], at: usize, left: usize, count: usize, n: u64, next: usize) -> Names
-    ensures { names_is result ≡ R.port_body s.now at left count (record { kind = Number; value = n; next = next }) }
+fn port_body(s: &[u8], at: usize, left: usize, count: usize, head: Head) -> Result<Names, Refusal>
+    ensures { answer_is names_is result ≡ R.port_body s.now at left count (head_is head) }
 {
-    if PORT < n {
-        return Names::Refused(Refusal {
-            number: LIMIT,
-            place: at,
-        });
+    if PORT < head.value {
+        refuse!(Limit, at);
     }
-    match nothing_at(s, next, left) {
-        RowEnd::Refused(refusal) => Names::Refused(refusal),
-        RowEnd::At(end) => Names::Are {
-            count,
-            port: Port::Is(n),
-            next: end,
-        },
-    }
+    let next = nothing_at(s, head.next, left)?;
+    Ok(Names {
+        count,
+        port: Some(head.value),
+        next,
+    })
 }
 
 // After an address: a port, or nothing.
-fn port_at(s: &[u8], at: usize, left: usize) -> Names
-    ensures { names_is result ≡ R.read_port s.now at left }
+fn port_at(s: &[u8], at: usize, left: usize) -> Result<Names, Refusal>
+    ensures { answer_is names_is result ≡ R.read_port s.now at left }
 {
     if left == 0 {
-        return Names::Are {
+        return Ok(Names {
             count: 0,
-            port: Port::Unset,
+            port: None,
             next: at,
-        };
+        });
     }
-    match cbor::item_at(s, at, only_number()) {
-        Item::Number { value: n, next } => port_body(s, at, left - 1, 0, n, next),
-        Item::Refused(n) => Names::Refused(Refusal {
-            number: n,
-            place: at,
-        }),
-        _ => Names::Refused(Refusal {
-            number: FORM,
-            place: at,
-        }),
-    }
+    let head = head_at(s, at, NUMBER)?;
+    port_body(s, at, left - 1, 0, head)
 }
 
 // A label after `count` others, whose head has been read; a ninth is over the limit.
-fn label_body(s: &[u8], count: usize, n: u64, next: usize) -> Step
-    requires { next ≤ length s.now }
-    ensures { (at : ℕ) → step_is at result ≡ R.label_body count s.now at (record { kind = Text; value = n; next = next }) }
+fn label_body(s: &[u8], at: usize, count: usize, head: Head) -> Result<usize, Refusal>
+    requires { head.next ≤ length s.now }
+    ensures { answer_is (λ n. n) result ≡ R.label_body count s.now at (head_is head) }
 {
     if LABELS <= count {
-        return Step::Refused(LIMIT);
+        refuse!(Limit, at);
     }
-    texts::text_body(s, next, n, Sort::Label)
+    text_body(s, at, head, Sort::Label)
 }
 
 // After `count` labels: a label, a port, or nothing, to the end of the `items` items.
-fn names_at(s: &[u8], at: usize, items: usize, count: usize) -> Names
+fn names_at(s: &[u8], at: usize, items: usize, count: usize) -> Result<Names, Refusal>
     requires { count + items ≤ 9 }
-    ensures { names_is result ≡ R.read_names s.now at items count }
+    ensures { answer_is names_is result ≡ R.read_names s.now at items count }
 {
     let mut here = at;
-    let mut left = items;
-    let mut seen = count;
-    while 0 < left {
-        match cbor::item_at(s, here, text_or_number()) {
-            Item::Text { length: n, next } => match label_body(s, seen, n, next) {
-                Step::Refused(k) => return Names::Refused(Refusal {
-                    number: k,
-                    place: here,
-                }),
-                Step::Next(end) => {
-                    here = end;
-                    left -= 1;
-                    seen += 1;
-                }
-            },
-            Item::Number { value: n, next } => return port_body(s, here, left - 1, seen, n, next),
-            Item::Refused(n) => return Names::Refused(Refusal {
-                number: n,
-                place: here,
-            }),
-            _ => return Names::Refused(Refusal {
-                number: FORM,
-                place: here,
-            }),
+    for i in 0..items {
+        let head = head_at(s, here, TEXT_OR_NUMBER)?;
+        if !head.is(Kind::Text) {
+            return port_body(s, here, items - i - 1, count + i, head);
         }
+        here = label_body(s, here, count + i, head)?;
     }
-    Names::Are {
-        count: seen,
-        port: Port::Unset,
+    Ok(Names {
+        count: count + items,
+        port: None,
         next: here,
-    }
+    })
 }
 
 // Whether an address may have n bytes.
 pub fn is_address_length(n: u64) -> bool
     ensures { result ≡ address_size n }
 {
-    match n {
-        4 | 16 => true,
-        _ => false,
-    }
+    matches!(n, 4 | 16)
 }
 
 // An address, whose head has been read, and a port.
-fn address_host(s: &[u8], start: usize, at: usize, left: usize, n: u64, next: usize) -> Authority
-    requires { next ≤ length s.now }
-    ensures { authority_is result ≡ R.address_host s.now start at left (record { kind = ByteString; value = n; next = next }) }
+fn address_host(
+    s: &[u8],
+    start: usize,
+    at: usize,
+    left: usize,
+    head: Head,
+) -> Result<AuthorityAt, Refusal>
+    requires { head.next ≤ length s.now }
+    ensures { answer_is authority_of result ≡ R.address_host s.now start at left (head_is head) }
 {
-    if !is_address_length(n) {
-        return Authority::Refused(Refusal {
-            number: LIMIT,
-            place: at,
-        });
+    if !is_address_length(head.value) {
+        refuse!(Limit, at);
     }
-    let count = n as usize;
-    if s.len() - next < count {
-        return Authority::Refused(Refusal {
-            number: CUT,
-            place: at,
-        });
+    let address = Span {
+        start: head.next,
+        length: head.value as usize,
+    };
+    if s.len() - address.start < address.length {
+        refuse!(Cut, at);
     }
-    match port_at(s, next + count, left) {
-        Names::Refused(refusal) => Authority::Refused(refusal),
-        Names::Are {
-            count: _,
-            port,
-            next: end,
-        } => Authority::Is(AuthorityAt {
-            at: start,
-            host: HostAt::Address {
-                at: next,
-                length: count,
-            },
-            port,
-            next: end,
-        }),
-    }
+    let names = port_at(s, address.start + address.length, left)?;
+    Ok(AuthorityAt {
+        at: start,
+        host: HostAt::Address(address),
+        port: names.port,
+        next: names.next,
+    })
 }
 
-// Labels, of which the first one's head has been read, and a port; then the rules over all labels.
-fn labels_host(s: &[u8], start: usize, at: usize, left: usize, n: u64, next: usize) -> Authority
-    requires { (left ≤ 8) × (accepted Text n next ≡ read_head (λ k. is ByteString k || is Text k) s.now at) }
-    ensures { authority_is result ≡ R.labels_host s.now start at left (record { kind = Text; value = n; next = next }) }
+// Labels, of which the first one's head has been read, and a port; then the rules over all labels, at the authority's first byte.
+fn labels_host(
+    s: &[u8],
+    start: usize,
+    at: usize,
+    left: usize,
+    head: Head,
+) -> Result<AuthorityAt, Refusal>
+    requires left { left ≤ 8 }
+    requires head { ok (head_is head) ≡ read_head (λ k. is ByteString k || is Text k) s.now at }
+    requires kind { is Text (head_is head).kind ≡ true }
+    ensures { answer_is authority_of result ≡ R.labels_host s.now start at left (head_is head) }
 {
-    match label_body(s, 0, n, next) {
-        Step::Refused(k) => Authority::Refused(Refusal {
-            number: k,
-            place: at, // of the label
-        }),
-        Step::Next(after) => match names_at(s, after, left, 1) {
-            Names::Refused(refusal) => Authority::Refused(refusal),
-            Names::Are {
-                count,
-                port,
-                next: end,
-            } => {
-                if !texts::name_rule(s, at, count) {
-                    return Authority::Refused(Refusal {
-                        number: RULE,
-                        place: start, // of the authority
-                    });
-                }
-                Authority::Is(AuthorityAt {
-                    at: start,
-                    host: HostAt::Labels { at, count },
-                    port,
-                    next: end,
-                })
-            }
-        },
+    let after = label_body(s, at, 0, head)?;
+    let names = names_at(s, after, left, 1)?;
+    if !texts::name_rule(s, at, names.count) {
+        refuse!(Rule, start);
     }
+    Ok(AuthorityAt {
+        at: start,
+        host: HostAt::Labels(Row {
+            at,
+            count: names.count,
+        }),
+        port: names.port,
+        next: names.next,
+    })
 }
 
 // The host and port of an authority that starts at `start` and has `items` items, the first of them at `at`.
-fn host_at(s: &[u8], start: usize, at: usize, items: usize) -> Authority
+fn host_at(s: &[u8], start: usize, at: usize, items: usize) -> Result<AuthorityAt, Refusal>
     requires { (1 ≤ items) × (items ≤ 9) }
-    ensures { authority_is result ≡ read_host s.now start at items }
+    ensures { answer_is authority_of result ≡ read_host s.now start at items }
 {
-    match cbor::item_at(s, at, address_or_label()) {
-        Item::ByteString { length: n, next } => address_host(s, start, at, items - 1, n, next),
-        Item::Text { length: n, next } => labels_host(s, start, at, items - 1, n, next),
-        Item::Refused(n) => Authority::Refused(Refusal {
-            number: n,
-            place: at,
-        }),
-        _ => Authority::Refused(Refusal {
-            number: FORM,
-            place: at,
-        }),
+    let head = head_at(s, at, ADDRESS_OR_LABEL)?;
+    if head.is(Kind::Text) {
+        labels_host(s, start, at, items - 1, head)
+    } else {
+        address_host(s, start, at, items - 1, head)
     }
 }
 
-fn authority_at(s: &[u8], at: usize) -> Authority
-    ensures { authority_is result ≡ R.read_authority s.now at }
+fn authority_at(s: &[u8], at: usize) -> Result<AuthorityAt, Refusal>
+    ensures { answer_is authority_of result ≡ R.read_authority s.now at }
 {
-    match array_head(s, at) {
-        Head::Refused(refusal) => Authority::Refused(refusal),
-        Head::Is { value: items, next } => {
-            if items < 1 {
-                return Authority::Refused(Refusal {
-                    number: LIMIT,
-                    place: at,
-                });
-            }
-            if AUTHORITY_ITEMS < items {
-                return Authority::Refused(Refusal {
-                    number: LIMIT,
-                    place: at,
-                });
-            }
-            host_at(s, at, next, items as usize)
-        }
+    let array = head_at(s, at, ARRAY)?;
+    if array.value < 1 || AUTHORITY_ITEMS < array.value {
+        refuse!(Limit, at);
     }
+    host_at(s, at, array.next, array.value as usize)
 }
 
 // ---- opening
 
 // A scheme needs a second item, the authority.
-fn after_scheme(s: &[u8], at: usize, count: usize, scheme: SchemeAt, next: usize) -> Opened
-    ensures { opened_is result ≡ R.after_scheme s.now at count (scheme_of scheme) next }
+fn after_scheme(
+    s: &[u8],
+    at: usize,
+    count: usize,
+    scheme: Option<Scheme>,
+    next: usize,
+) -> Result<Opened, Refusal>
+    ensures { answer_is opened_is result ≡ R.after_scheme s.now at count (scheme_of scheme) next }
 {
     if count < 2 {
-        return Opened::Refused(Refusal {
-            number: FORM,
-            place: at,
-        });
+        refuse!(Form, at);
     }
-    match authority_at(s, next) {
-        Authority::Refused(refusal) => Opened::Refused(refusal),
-        Authority::Is(authority) => {
-            let end = authority.next;
-            Opened::Is {
-                opening: OpeningAt::Full(scheme, authority),
-                next: end,
-                left: count - 2,
-            }
-        }
-    }
-}
-
-// The array that holds only 0.
-fn lone_zero(count: usize, n: u64) -> bool
-    ensures { result ≡ (eqb count 1 && eqb n 0) }
-{
-    if count != 1 {
-        return false;
-    }
-    n == 0
+    let authority = authority_at(s, next)?;
+    Ok(Opened {
+        opening: OpeningAt::Full(scheme, authority),
+        next: authority.next,
+        left: count - 2,
+    })
 }
 
 // A discard, the first of `count` items.
-fn discard_body(count: usize, n: u64, next: usize) -> First
-    ensures { (bs : Bytes) (at : ℕ) → first_is bs at count result ≡ R.opening_body bs at count (record { kind = Number; value = n; next = next }) Number }
+fn discard_body(at: usize, count: usize, head: Head) -> Result<(First, usize), Refusal>
+    ensures { (bs : Bytes) → first_is bs at count result ≡ R.opening_body bs at count (head_is head) Number }
 {
-    if DISCARD < n {
-        return First::Refused(LIMIT);
+    if DISCARD < head.value {
+        refuse!(Limit, at);
     }
     if DISCARD_ITEMS < count {
-        return First::Refused(FORM);
+        refuse!(Form, at);
     }
-    if lone_zero(count, n) {
-        return First::Refused(FORM);
+    if count == 1 && head.value == 0 {
+        refuse!(Form, at);
     }
-    First::Discard {
-        opening: OpeningAt::Discard(n),
-        next,
-    }
+    Ok((First::Discard(OpeningAt::Discard(head.value)), head.next))
 }
 
 // True, the first of `count` items.
-fn discard_all_body(count: usize, next: usize) -> First
-    ensures { (bs : Bytes) (at : ℕ) → first_is bs at count result ≡ R.opening_body bs at count (record { kind = True; value = 21; next = next }) True }
+fn discard_all_body(at: usize, count: usize, head: Head) -> Result<(First, usize), Refusal>
+    ensures { (bs : Bytes) → first_is bs at count result ≡ R.opening_body bs at count (head_is head) True }
 {
     if DISCARD_ITEMS < count {
-        return First::Refused(FORM);
+        refuse!(Form, at);
     }
-    First::Discard {
-        opening: OpeningAt::DiscardAll,
-        next,
-    }
+    Ok((First::Discard(OpeningAt::DiscardAll), head.next))
 }
 
 // A scheme's name, whose head has been read.
-fn name_body(s: &[u8], n: u64, next: usize) -> First
-    requires { next ≤ length s.now }
-    ensures { (at count : ℕ) → first_is s.now at count result ≡ R.opening_body s.now at count (record { kind = Text; value = n; next = next }) Text }
+fn name_body(s: &[u8], at: usize, head: Head) -> Result<(First, usize), Refusal>
+    requires { head.next ≤ length s.now }
+    ensures { (count : ℕ) → first_is s.now at count result ≡ R.opening_body s.now at count (head_is head) Text }
 {
-    match texts::scheme_body(s, next, n) {
-        Step::Refused(k) => First::Refused(k),
-        Step::Next(end) => First::Scheme {
-            scheme: SchemeAt::Name {
-                at: next,
-                length: n as usize,
-            },
-            next: end,
-        },
-    }
+    let end = scheme_body(s, at, head)?;
+    let name = Span {
+        start: head.next,
+        length: head.value as usize,
+    };
+    Ok((First::Scheme(Some(Scheme::Name(name))), end))
 }
 
 // A scheme's number, whose head has been read: its id is -1 - n.
-fn number_body(n: u64, next: usize) -> First
-    ensures { (bs : Bytes) (at count : ℕ) → first_is bs at count result ≡ R.opening_body bs at count (record { kind = Negative; value = n; next = next }) Negative }
+fn number_body(at: usize, head: Head) -> Result<(First, usize), Refusal>
+    ensures { (bs : Bytes) (count : ℕ) → first_is bs at count result ≡ R.opening_body bs at count (head_is head) Negative }
 {
-    match scheme_id(n) {
-        SchemeId::TooLarge => First::Refused(RULE),
-        SchemeId::Is(id) => {
-            if !schemes::is_known(id) {
-                return First::Refused(RULE);
-            }
-            match scheme_number(id) {
-                SchemeNumber::Is(number) => First::Scheme {
-                    scheme: SchemeAt::Number(number),
-                    next,
-                },
-                SchemeNumber::NotNegative => First::Refused(RULE),
-            }
-        }
+    let Some(id) = scheme_id(head.value) else {
+        refuse!(Rule, at)
+    };
+    if !schemes::is_known(id) {
+        refuse!(Rule, at);
     }
+    let Some(number) = scheme_number(id) else {
+        refuse!(Rule, at)
+    };
+    Ok((First::Scheme(Some(Scheme::Number(number))), head.next))
 }
 
-// The first of `count` items.
-fn first_at(s: &[u8], at: usize, count: usize) -> First
+// The first of `count` items, and the position after it.
+fn first_at(s: &[u8], at: usize, count: usize) -> Result<(First, usize), Refusal>
     requires { 0 < count }
     ensures { first_is s.now at count result ≡ R.read_opening s.now at count }
 {
-    match cbor::item_at(s, at, may_open()) {
-        Item::Number { value: n, next } => discard_body(count, n, next),
-        Item::True(next) => discard_all_body(count, next),
-        Item::Negative { value: n, next } => number_body(n, next),
-        Item::Text { length: n, next } => name_body(s, n, next),
-        Item::Null(next) => First::Scheme {
-            scheme: SchemeAt::Unset,
-            next,
-        },
-        Item::Refused(n) => First::Refused(n),
-        _ => First::Refused(FORM),
+    let head = head_at(s, at, OPENINGS)?;
+    match head.kind {
+        Kind::Number => discard_body(at, count, head),
+        Kind::True => discard_all_body(at, count, head),
+        Kind::Negative => number_body(at, head),
+        Kind::Text => name_body(s, at, head),
+        Kind::Null => Ok((First::Scheme(None), head.next)),
+        Kind::ByteString | Kind::Array | Kind::Other => refuse!(Form, at),
     }
 }
 
 // The opening, at the head of `count` items.
-fn opening_at(s: &[u8], at: usize, count: usize) -> Opened
-    ensures { opened_is result ≡ R.read_opening s.now at count }
+fn opening_at(s: &[u8], at: usize, count: usize) -> Result<Opened, Refusal>
+    ensures { answer_is opened_is result ≡ R.read_opening s.now at count }
 {
     if count == 0 {
-        return Opened::Is {
+        return Ok(Opened {
             opening: OpeningAt::Discard(0),
             next: at,
             left: 0,
-        };
+        });
     }
-    match first_at(s, at, count) {
-        First::Discard { opening, next } => Opened::Is {
+    match first_at(s, at, count)? {
+        (First::Discard(opening), next) => Ok(Opened {
             opening,
             next,
             left: count - 1,
-        },
-        First::Scheme { scheme, next } => after_scheme(s, at, count, scheme, next),
-        First::Refused(n) => Opened::Refused(Refusal {
-            number: n,
-            place: at,
         }),
+        (First::Scheme(scheme), next) => after_scheme(s, at, count, scheme, next),
     }
 }
 
 // ---- the whole
 
-// a - b, and 0 where b is more.
-fn minus(a: usize, b: usize) -> usize
-    ensures { result ≡ a - b }
+// Path, query and fragment, of which `left` items are left, and the end, after which nothing may stand.
+fn rest_at(s: &[u8], opening: OpeningAt, at: usize, left: usize) -> Result<Found, Refusal>
+    ensures { answer_is found_of result ≡ read_rest limits s.now (opening_of opening) at left }
 {
-    if a < b {
-        return 0;
+    let (path, after_path) = array_at(s, at, left, Sort::Segment, 0, SEGMENTS as u64)?;
+    let (query, after_query) = array_at(
+        s,
+        after_path,
+        left.saturating_sub(1),
+        Sort::Parameter,
+        1,
+        PARAMETERS as u64,
+    )?;
+    let (fragment, end) = fragment_at(s, after_query, left.saturating_sub(2))?;
+    if end < s.len() {
+        refuse!(Tail, end);
     }
-    a - b
-}
-
-// The end, after which nothing may stand.
-fn finish(s: &[u8], found: Found, next: usize) -> Answer
-    ensures { answer_is result ≡ read_end s.now (found_of found) next }
-{
-    if next < s.len() {
-        return Answer::Refused(Refusal {
-            number: TAIL,
-            place: next,
-        });
-    }
-    Answer::Is(found)
-}
-
-// Path, query and fragment, of which `left` items are left, and the end.
-fn rest_at(s: &[u8], opening: OpeningAt, at: usize, left: usize) -> Answer
-    ensures { answer_is result ≡ read_rest limits s.now (opening_of opening) at left }
-{
-    match array_at(s, at, left, Sort::Segment, 0, SEGMENTS as u64) {
-        SlotAt::Refused(refusal) => Answer::Refused(refusal),
-        SlotAt::Is {
-            slot: path,
-            next: after_path,
-        } => {
-            match array_at(
-                s,
-                after_path,
-                minus(left, 1),
-                Sort::Parameter,
-                1,
-                PARAMETERS as u64,
-            ) {
-                SlotAt::Refused(refusal) => Answer::Refused(refusal),
-                SlotAt::Is {
-                    slot: query,
-                    next: after_query,
-                } => {
-                    match fragment_at(s, after_query, minus(left, 2)) {
-                        SlotAt::Refused(refusal) => Answer::Refused(refusal),
-                        SlotAt::Is {
-                            slot: fragment,
-                            next: end,
-                        } => finish(
-                            s,
-                            Found {
-                                opening,
-                                path,
-                                query,
-                                fragment,
-                            },
-                            end,
-                        ),
-                    }
-                }
-            }
-        }
-    }
-}
-
-// The `count` items of the outer array.
-fn items_at(s: &[u8], at: usize, count: usize) -> Answer
-    ensures { answer_is result ≡ read_items limits s.now at count }
-{
-    match opening_at(s, at, count) {
-        Opened::Refused(refusal) => Answer::Refused(refusal),
-        Opened::Is {
-            opening,
-            next,
-            left,
-        } => rest_at(s, opening, next, left),
-    }
+    Ok(Found {
+        opening,
+        path,
+        query,
+        fragment,
+    })
 }
 
 // The whole reader.
-pub fn read(s: &[u8]) -> Answer
-    ensures { answer_is result ≡ R.read limits s.now }
+pub fn read(s: &[u8]) -> Result<Found, Refusal>
+    ensures { answer_is found_of result ≡ R.read limits s.now }
 {
     if BYTES < s.len() {
-        return Answer::Refused(Refusal {
-            number: LIMIT,
-            place: BYTES,
-        });
+        refuse!(Limit, BYTES);
     }
-    match array_head(s, 0) {
-        Head::Refused(refusal) => Answer::Refused(refusal),
-        Head::Is { value: count, next } => {
-            if ITEMS < count {
-                return Answer::Refused(Refusal {
-                    number: FORM,
-                    place: 0,
-                });
-            }
-            items_at(s, next, count as usize)
-        }
+    let array = head_at(s, 0, ARRAY)?;
+    if ITEMS < array.value {
+        refuse!(Form, 0);
     }
+    let opened = opening_at(s, array.next, array.value as usize)?;
+    rest_at(s, opened.opening, opened.next, opened.left)
 }

@@ -1,34 +1,35 @@
--- The parts of a result as its encoding, their length, and what the call answers.
+-- The parts of a result as its encoding, and what the call answers.
 use Prim.Native.Nat.{ℕ, suc, ◌+◌, ◌≤◌, ◌<◌}
 use native.Mathlib.Omega.{arith}
 use mathlib.Core.Path.{◌≡◌, refl, sym, ap, ap₂, ◌∙◌}
 use mathlib.Core.Bool.{Bool, true, false, ◌&&◌}
 use mathlib.Core.List.{List, ◌++◌, append_assoc}
 use mathlib.Core.Option.{Option, none, some}
-use lib.ListN.{length, length-append}
+use lib.ListN.{length}
 use lib.Dec.{leb}
 use borrow.Author.Tests.{le-leb, lt-leb}
-use Rattle.rules.specs.Bytes.{Bytes, concat}
+use Rattle.rules.specs.Bytes.{Bytes, Octets, concat}
 use Rattle.rules.specs.Result.{Res, refused, ok, need, given, ◌>>=◌, ◌>>◌, BASE, RESULT}
 use Rattle.rules.specs.Model.{Reference, limits, Cri, absolute, reference, set_path}
 use Rattle.rules.specs.Head.{head_bytes, Array}
-use Rattle.rules.specs.Reader.{taken, Found, read}
+use Rattle.rules.specs.Reader.{Found, read}
 use Rattle.rules.specs.Meaning.{meaning, read_reference, read_absolute}
 use Rattle.rules.specs.Encode.{array_item, or_null, scheme_item, authority_item, tail_items, with_opening, encode}
-use Rattle.rules.specs.Resolve.{start, resolve, as_base, fits}
+use Rattle.rules.specs.Resolve.{resolve, as_base, fits}
 use Rattle.rules.specs.Calls.{resolve_call}
-use Rattle.rules.proofs.Tools.{by_test, length_part}
+use Rattle.rules.proofs.Tools.{by_test}
 use Rattle.rules.proofs.Steps.{ok_at, refused_ok}
 use Rattle.rules.proofs.Resolving.{resolved_is}
-use Rattle.rules.proofs.Laid.{head_length_lem, head_one}
+use Rattle.rules.proofs.Standing.{read_size}
+use Rattle.rules.proofs.Laid.{laid}
 use Rattle.absolutes.specs.Bases.{is_absolute, read_base}
 use Rattle.absolutes.proofs.AbsoluteOpenings.{absolute_opening, relative_opening, base_read}
-use Rattle.cbor.specs.Heads.{span_is}
 use Rattle.resolver_parts.specs.declared.Both.{Both}
 use Rattle.resolver_parts.specs.declared.Parts.{Parts}
-use Rattle.resolver_parts.specs.Parts.{both_of, BothInside, further_items, PartsAre}
-use Rattle.resolver.specs.Written.{BothSmall, path_head, path_items, PartsInside, PartsSmall, parts_of, parts_result}
-use Rattle.resolver.proofs.ResultItems.{tail_bytes, tail_count, items_most}
+use Rattle.resolver_parts.specs.Parts.{Accepted, BothInside, further_items, PartsAre}
+use Rattle.resolver_parts.specs.Written.{BothSmall, path_head, path_items, PartsInside, PartsSmall, parts_of}
+use Rattle.resolver_parts.proofs.ResultItems.{tail_bytes, tail_count}
+use Rattle.resolver.specs.Written.{parts_result}
 
 -- ---- its encoding
 
@@ -45,71 +46,9 @@ parts_encode base ref p c h =
     ∙ append_assoc (scheme_item c.scheme) (authority_item c.authority) _
     ∙ ap (λ (l : Bytes). scheme_item c.scheme ++ (authority_item c.authority ++ l)) (sym (tail_bytes c.path c.query c.fragment)))
 
--- ---- its length
-
-both_length : (base ref : Bytes) (b : Both) → BothInside base ref b → length (both_of base ref b) ≡ b.base.length + b.reference.length
-unfolding both_of
-both_length base ref b h =
-    length-append (taken base (span_is b.base)) (taken ref (span_is b.reference))
-    ∙ omega (arith, length_part base b.base.start b.base.length h.of_base, length_part ref b.reference.start b.reference.length h.of_reference)
-
-module _ (p : Parts) where
-  -- how many items there are
-  abbrev pub count : ℕ
-  count = 2 + path_items p.path.count p.tail.count + p.tail.count
-
-  -- as the code counts them
-  pub counted : {n : ℕ} → n ≡ path_items p.path.count p.tail.count → 2 + n + p.tail.count ≡ count
-  counted e = ap (λ (n : ℕ). 2 + n + p.tail.count) e
-
-  count_most : PartsSmall p → count ≤ 5
-  count_most s = omega (arith, s.further, items_most p.path.count p.tail.count)
-
-  head_size : PartsSmall p → length (head_bytes Array count) ≡ 1
-  head_size s = head_length_lem Array count ∙ head_one count (omega (arith, count_most s))
+-- ---- 5.5
 
 module _ (base ref : Bytes) (p : Parts) where
-  pub parts_length : PartsSmall p → PartsInside base ref p → length (parts_of base ref p)
-      ≡ 1 + (p.front.base.length + p.front.reference.length) + length (path_head p.path.count p.tail.count)
-      + (p.path.texts.base.length + p.path.texts.reference.length) + (p.tail.items.base.length + p.tail.items.reference.length)
-  unfolding parts_of
-  parts_length s h =
-      let f : Bytes = both_of base ref p.front in
-      let d : Bytes = path_head p.path.count p.tail.count in
-      let t : Bytes = both_of base ref p.path.texts in
-      let i : Bytes = both_of base ref p.tail.items in
-      omega (
-        arith,
-        length-append (head_bytes Array (count p)) (f ++ (d ++ (t ++ i))),
-        length-append f (d ++ (t ++ i)),
-        length-append d (t ++ i),
-        length-append t i,
-        head_size p s,
-        both_length base ref p.front h.front,
-        both_length base ref p.path.texts h.path,
-        both_length base ref p.tail.items h.tail,
-      )
-
-  -- what the places of the pieces follow from, with an outer head for n items
-  pub record Sizes (n : ℕ) : Type 0 where
-    pub total : length (parts_of base ref p)
-        ≡ 1 + (p.front.base.length + p.front.reference.length) + length (path_head p.path.count p.tail.count)
-        + (p.path.texts.base.length + p.path.texts.reference.length) + (p.tail.items.base.length + p.tail.items.reference.length)
-    pub head : length (head_bytes Array n) ≡ 1
-    pub front : length (both_of base ref p.front) ≡ p.front.base.length + p.front.reference.length
-    pub path : length (both_of base ref p.path.texts) ≡ p.path.texts.base.length + p.path.texts.reference.length
-
-  pub sizes : PartsSmall p × PartsInside base ref p → {n : ℕ} → n ≡ path_items p.path.count p.tail.count → Sizes (2 + n + p.tail.count)
-  sizes h e =
-      record {
-        total = parts_length h.0 h.1;
-        head = ap (λ (n : ℕ). length (head_bytes Array n)) (counted p e) ∙ head_size p h.0;
-        front = both_length base ref p.front h.1.front;
-        path = both_length base ref p.path.texts h.1.path;
-      }
-
-  -- ---- 5.5
-
   pub over_segments : limits.segments < p.path.count → parts_result base ref p ≡ refused RESULT 0
   unfolding parts_result need ◌>>◌
   over_segments h = rw (lt-leb p.path.count limits.segments h)
@@ -124,26 +63,29 @@ module _ (base ref : Bytes) (p : Parts) where
   unfolding parts_result need ◌>>◌
   within_both h k = rw (le-leb p.path.count limits.segments h, le-leb (length (parts_of base ref p)) limits.bytes k)
 
--- parts of inputs that were accepted are small and inside
+-- ---- inputs that were accepted, and parts of them, which are small and inside
+
+pub accepted : (bs : Bytes) (f : Found) → Octets bs → read limits bs ≡ ok f → Accepted bs f
+accepted bs f o e = record { laid = ok_at (laid limits bs o) e; size = ok_at (read_size limits bs) e }
 
 pub parts_inside : (base ref : Bytes) (p : Parts) (c : Cri) → PartsAre base ref p c → PartsInside base ref p
 parts_inside base ref p c h = record { front = h.front.inside; path = h.path.both.inside; tail = h.tail.both.inside }
-
-both_small : (base ref : Bytes) (b : Both) → length base ≤ limits.bytes → length ref ≤ limits.bytes → BothInside base ref b → BothSmall b
-both_small base ref b h k i = record { of_base = omega (arith, i.of_base); of_reference = omega (arith, i.of_reference) }
 
 further_most : (q : Option (List Bytes)) (f : Option Bytes) → further_items q f ≤ 2
 further_most q (some f) = omega arith
 further_most (some q) none = omega arith
 further_most none none = omega arith
 
-pub parts_small : (base ref : Bytes) (p : Parts) (c : Cri) → length base ≤ limits.bytes → length ref ≤ limits.bytes → PartsAre base ref p c → PartsSmall p
-parts_small base ref p c h k a =
-    let small : (b : Both) → BothInside base ref b → BothSmall b = λ b. both_small base ref b h k in
+pub parts_small : {f g : Found} (base ref : Bytes) (p : Parts) (c : Cri) → read limits base ≡ ok f → read limits ref ≡ ok g → PartsAre base ref p c → PartsSmall p
+parts_small base ref p c d e a =
+    let m = ok_at (read_size limits base) d in
+    let n = ok_at (read_size limits ref) e in
+    let small : (b : Both) → BothInside base ref b → BothSmall b =
+    λ b i. record { of_base = omega (arith, m, i.of_base); of_reference = omega (arith, n, i.of_reference) } in
     record {
       front = small p.front a.front.inside;
-      path = small p.path.texts a.path.both.inside;
-      tail = small p.tail.items a.tail.both.inside;
+      path = small p.path.both a.path.both.inside;
+      tail = small p.tail.both a.tail.both.inside;
       further = omega (arith, a.tail.count, further_most c.query c.fragment);
     }
 

@@ -1,2 +1,1 @@
 mod Encoded
-mod ResultItems

@@ -1,2 +1,2 @@
--- The bytes of a result, and the refusal of those that are too many.
+-- The refusal of a result that is too long.
 pub mod Written

@@ -1,2 +1,4 @@
 mod ResultParts
 mod Resolved
+pub mod ResultItems
+mod ResultLength

@@ -3,26 +3,31 @@ use Rattle.std.specs.Prelude.{ℕ, zero, suc, ◌+◌, ◌-◌, ◌≤◌, ◌�
 use Rattle.std.proofs.Math.Option.{Option, none, some, get_or}
 use Rattle.rules.specs.Bytes.{Bytes}
 use Rattle.rules.specs.Model.{Scheme, Authority, Opening, Cri, limits}
-use Rattle.rules.specs.Reader.{taken, contents, Slot, unset, set, OpeningAt, discard_at, discard_all_at, full_at}
+use Rattle.rules.specs.Reader.{taken, contents, Slot, unset, set, OpeningAt, discard_at, discard_all_at, full_at, Found}
 use Rattle.rules.specs.Encode.{scheme_item, authority_item}
 use Rattle.rules.specs.Resolve.{opening_scheme, opening_authority}
-use Rattle.rules.specs.Laid.{Between, texts, TextsLaid, query_item, fragment_item}
+use Rattle.rules.specs.Laid.{Between, Laid, texts, TextsLaid, query_item, fragment_item}
+use Rattle.cbor.specs.declared.Span.{Span}
 use Rattle.cbor.specs.Heads.{span_is}
 use Rattle.resolver_parts.specs.declared.Both.{Both}
 use Rattle.resolver_parts.specs.declared.RowSpan.{RowSpan}
-use Rattle.resolver_parts.specs.declared.Path.{Path}
-use Rattle.resolver_parts.specs.declared.Tail.{Tail}
+use Rattle.resolver_parts.specs.declared.Counted.{Counted}
 use Rattle.resolver_parts.specs.declared.Parts.{Parts}
 
--- ---- parts of both inputs
+-- ---- parts of an input, and of both
+
+-- where everything stands in an input that is no longer than the reader accepts
+pub record Accepted (bs : Bytes) (f : Found) : Type 0 where
+  pub laid : Laid bs f
+  pub size : length bs ≤ limits.bytes
+
+-- at a span stand these bytes
+abbrev pub SpanIs : Bytes → Span → Bytes → Type 0
+SpanIs bs s w = Between bs s.start (s.start + s.length) w
 
 -- the bytes of a part of the base, and then of one of the reference
 unfoldable pub both_of : Bytes → Bytes → Both → Bytes
 both_of base ref b = taken base (span_is b.base) ++ taken ref (span_is b.reference)
-
--- no bytes of either
-abbrev pub no_both : Both
-no_both = record { base = record { start = 0; length = 0 }; reference = record { start = 0; length = 0 } }
 
 -- both lie inside
 pub record BothInside (base ref : Bytes) (b : Both) : Type 0 where
@@ -42,24 +47,19 @@ front_items o s a = scheme_item (get_or (opening_scheme o) s) ++ authority_item 
 
 -- ---- path
 
--- a path ends after it starts
-abbrev pub Ends : Slot → ℕ → Type 0
-Ends unset end = Unit {0}
-Ends (set at n) end = at ≤ end
-
 -- the texts of a row
 abbrev pub row_texts : Bytes → RowSpan → List Bytes
-row_texts bs row = contents bs row.start row.count
+row_texts bs row = contents bs row.span.start row.count
 
 -- the texts of a row are these
 pub record RowIs (bs : Bytes) (row : RowSpan) (ts : List Bytes) : Type 0 where
-  pub each : TextsLaid bs row.start row.count
+  pub each : TextsLaid bs row.span.start row.count
   pub says : row_texts bs row ≡ ts
-  pub bytes : Between bs row.start (row.start + row.length) (texts ts)
+  pub bytes : SpanIs bs row.span (texts ts)
 
 -- a row of no more than an input's bytes
 pub record Small (row : RowSpan) : Type 0 where
-  pub bytes : row.length ≤ limits.bytes
+  pub bytes : row.span.length ≤ limits.bytes
   pub texts : row.count ≤ limits.bytes
 
 -- RULES 5.1: what an opening leaves of the base's path
@@ -69,8 +69,8 @@ kept discard_all_at ts = []
 kept (full_at s a) ts = []
 
 -- the texts of a path, one after the other, and their count
-pub record PathIs (base ref : Bytes) (p : Path) (ts : List Bytes) : Type 0 where
-  pub both : BothIs base ref p.texts (texts ts)
+pub record PathIs (base ref : Bytes) (p : Counted) (ts : List Bytes) : Type 0 where
+  pub both : BothIs base ref p.both (texts ts)
   pub count : p.count ≡ length ts
 
 -- ---- query and fragment
@@ -82,11 +82,6 @@ keeps_query (discard_at zero) (set at n) = false
 keeps_query (discard_at (suc k)) p = false
 keeps_query discard_all_at p = false
 keeps_query (full_at s a) p = false
-
--- a query is there
-abbrev pub is_set : Slot → Bool
-is_set unset = false
-is_set (set at n) = true
 
 -- RULES 5.3: the base's query is the result's
 abbrev pub takes_query : Slot → OpeningAt → Slot → Slot → Bool
@@ -107,8 +102,8 @@ further_of true unset = 1
 further_of false unset = 0
 
 -- query and fragment, and how many items they are
-pub record TailIs (base ref : Bytes) (t : Tail) (q : Option (List Bytes)) (f : Option Bytes) : Type 0 where
-  pub both : BothIs base ref t.items (query_item q f ++ fragment_item f)
+pub record TailIs (base ref : Bytes) (t : Counted) (q : Option (List Bytes)) (f : Option Bytes) : Type 0 where
+  pub both : BothIs base ref t.both (query_item q f ++ fragment_item f)
   pub count : t.count ≡ further_items q f
 
 -- ---- the whole

@@ -1,57 +1,76 @@
-// Where the parts of a resolved CRI stand. An item that was accepted is the encoding of what it says, so the result is made of parts of the two inputs.
+// Where the parts of a resolved CRI stand, and writing them. An item that was accepted is the encoding of what it says, so the result is made of parts
+// of the two inputs.
 #![tactic(auto)]
 
 ghost use Rattle.std.specs.Prelude.{◌+◌, ◌-◌, ◌≤◌, ◌<◌, ◌≡◌, true, cond, List, ◌++◌, length, take};
 ghost use Rattle.std.proofs.Math.Option.{none, some};
 ghost use Rattle.rules.specs.Bytes.{Bytes};
-ghost use Rattle.rules.specs.Model.{Scheme, Authority, full, Cri, elements, absolute, normal_path, limits};
+ghost use Rattle.rules.specs.Model.{Scheme, Authority, full, Cri, elements, absolute, normal_path};
 ghost use Rattle.rules.specs.Meaning.{meaning, said_texts, said_text, said_opening};
-ghost use Rattle.rules.specs.Encode.{scheme_item, authority_item};
 ghost use Rattle.rules.specs.Resolve.{or, resolve as rules_resolve};
-ghost use Rattle.rules.specs.Laid.{Between, Headed, Ordered, fragment_start, tail_start, OpeningLaid, PathLaid, TailLaid, Laid};
-ghost use Rattle.reader.specs.Answers.{slot_of, opening_of, found_of};
-ghost use Rattle.resolver_parts.specs.Parts.{no_both, BothIs, front_items, Ends, RowIs, row_texts, Small, kept, PathIs, keeps_query, is_set, takes_query, further_of, TailIs, PartsAre};
+ghost use Rattle.rules.specs.Laid.{fragment_start, tail_start};
+ghost use Rattle.reader.specs.Answers.{slot_of, text_of, opening_of, found_of};
+ghost use Rattle.put.specs.Wrote.{Wrote};
+ghost use Rattle.resolver_parts.specs.Parts.{both_of, BothInside, BothIs, front_items, Accepted, RowIs, row_texts, Small, kept, PathIs, keeps_query, takes_query, further_of, TailIs, PartsAre};
+ghost use Rattle.resolver_parts.specs.Written.{BothSmall, path_head, path_items, PartsInside, PartsSmall, parts_of};
 
-use cbor::Span;
-use cbor_heads::head_length;
-use reader::{Found, OpeningAt, SchemeAt, Slot};
+use cbor::{Kind, Span};
+use cbor_heads::{head_length, put_head};
+use put::put_bytes;
+use reader::{Found, OpeningAt, Row};
+
+// An input that was read, and where everything stands in it.
+#[derive(Clone, Copy)]
+pub struct Input<'a> {
+    pub bytes: &'a [u8],
+    pub found: Found,
+}
 
 // A part of the base, and after it one of the reference.
-#[derive(Clone, Copy)]
+#[derive(Clone, Copy, Debug, PartialEq, Eq)]
 pub struct Both {
     pub base: Span,
     pub reference: Span,
 }
 
-// Texts that stand in a row, and how many there are.
+// Where the texts of a row stand, and how many there are.
 #[derive(Clone, Copy)]
-pub struct RowSpan {
-    pub start: usize,
-    pub length: usize,
+struct RowSpan {
+    span: Span,
+    count: usize,
+}
+
+// What stands in both, and how many texts or items that is.
+#[derive(Clone, Copy, Debug, PartialEq, Eq)]
+pub struct Counted {
+    pub both: Both,
     pub count: usize,
 }
 
-// The segments of a path, and how many there are.
-#[derive(Clone, Copy)]
-pub struct Path {
-    pub texts: Both,
-    pub count: usize,
-}
-
-// Query and fragment, and how many items they are.
-#[derive(Clone, Copy)]
-pub struct Tail {
-    pub items: Both,
-    pub count: usize,
-}
-
-// The result; its front is scheme and authority.
-#[derive(Clone, Copy)]
+// The result: scheme and authority; the segments of the path; query and fragment.
+#[derive(Clone, Copy, Debug, PartialEq, Eq)]
 pub struct Parts {
     pub front: Both,
-    pub path: Path,
-    pub tail: Tail,
+    pub path: Counted,
+    pub tail: Counted,
 }
+
+// ---- no bytes
+
+const NOWHERE: Span = Span {
+    start: 0,
+    length: 0,
+};
+
+const NO_BOTH: Both = Both {
+    base: NOWHERE,
+    reference: NOWHERE,
+};
+
+const NO_ROW: RowSpan = RowSpan {
+    span: NOWHERE,
+    count: 0,
+};
 
 // From a position up to another.
 fn between(start: usize, end: usize) -> Span
@@ -59,137 +78,88 @@ fn between(start: usize, end: usize) -> Span
     ensures { result ≡ record { start = start; length = end - start } }
 {
     Span {
-        start: start,
+        start,
         length: end - start,
     }
 }
 
-fn nowhere() -> Span
-    ensures { result ≡ record { start = 0; length = 0 } }
-{
-    Span {
-        start: 0,
-        length: 0,
+// ---- where the items of an input stand
+
+impl Input<'_> {
+    // Where the fragment starts; the end, where there is none.
+    fn fragment_start(self) -> usize
+        requires { Accepted self.bytes.now (found_of self.found) }
+        ensures { result ≡ fragment_start (length self.entry.bytes.now) (text_of self.entry.found.fragment) }
+    {
+        match self.found.fragment {
+            None => self.bytes.len(),
+            Some(text) => text.start - head_length(text.length as u64),
+        }
     }
-}
 
-// No bytes of either.
-fn no_both() -> Both
-    ensures { result ≡ no_both }
-{
-    Both {
-        base: nowhere(),
-        reference: nowhere(),
+    // Where the query starts, or the null in its place; the end, where nothing follows the path.
+    fn tail_start(self) -> usize
+        requires { Accepted self.bytes.now (found_of self.found) }
+        ensures { result ≡ tail_start (length self.entry.bytes.now) (slot_of self.entry.found.query) (text_of self.entry.found.fragment) }
+    {
+        match (self.found.query, self.found.fragment) {
+            (Some(row), _) => row.at - head_length(row.count as u64),
+            (None, Some(_)) => self.fragment_start() - 1,
+            (None, None) => self.bytes.len(),
+        }
     }
-}
 
-// ---- where the items of an input start
-
-// Where a fragment starts; the end, where there is none.
-fn fragment_start(end: usize, fragment: Slot) -> usize
-    requires { Headed (slot_of fragment) }
-    ensures { result ≡ fragment_start end (slot_of fragment) }
-{
-    match fragment {
-        Slot::Unset => end,
-        Slot::Set { at, count: n } => at - head_length(n as u64),
-    }
-}
-
-// Where a query starts, or the null in its place; the end, where nothing follows the path.
-fn tail_start(end: usize, query: Slot, fragment: Slot) -> usize
-    requires { Headed (slot_of query) × Headed (slot_of fragment) }
-    ensures { result ≡ tail_start end (slot_of query) (slot_of fragment) }
-{
-    match query {
-        Slot::Set { at, count: n } => at - head_length(n as u64),
-        Slot::Unset => match fragment {
-            Slot::Unset => end,
-            Slot::Set { at, count: n } => at - head_length(n as u64) - 1,
-        },
-    }
-}
-
-// ---- scheme and authority. Here and below `old` is what the base has
-
-// Each of the two where the reference brings it, else the base's, whose authority stands from a position up to another.
-fn front_at(at: usize, next: usize, opening: OpeningAt) -> Both
-    requires { (1 ≤ at) × (1 ≤ next) × Ordered (opening_of opening) }
-    ensures { (base ref : Bytes) (s : Scheme Bytes) (a : Authority Bytes) → Between base 1 at (scheme_item s) → Between base at next (authority_item a) → OpeningLaid ref (opening_of opening) → BothIs base ref result (front_items (said_opening ref (opening_of opening)) s a) }
-{
-    match opening {
-        OpeningAt::Discard(_) => Both {
-            base: between(1, next),
-            reference: nowhere(),
-        },
-        OpeningAt::DiscardAll => Both {
-            base: between(1, next),
-            reference: nowhere(),
-        },
-        OpeningAt::Full(scheme, authority) => match scheme {
-            SchemeAt::Unset => Both {
-                base: between(1, at),
-                reference: between(authority.at, authority.next),
+    // The segments of the path.
+    fn segments(self) -> RowSpan
+        requires { Accepted self.bytes.now (found_of self.found) }
+        ensures { RowIs self.entry.bytes.now result (elements (said_texts self.entry.bytes.now (slot_of self.entry.found.path))) }
+    {
+        match self.found.path {
+            None => NO_ROW,
+            Some(row) => RowSpan {
+                span: between(row.at, self.tail_start()),
+                count: row.count,
             },
-            SchemeAt::Number(_) => Both {
-                base: nowhere(),
-                reference: between(1, authority.next),
-            },
-            SchemeAt::Name { .. } => Both {
-                base: nowhere(),
-                reference: between(1, authority.next),
-            },
-        },
+        }
     }
 }
+
+// ---- scheme and authority
 
 // Each of the two where the reference brings it, else the base's.
-fn front(old: OpeningAt, opening: OpeningAt) -> Both
-    requires { Ordered (opening_of old) × Ordered (opening_of opening) }
-    ensures { (base ref : Bytes) (s : Scheme Bytes) (a : Authority Bytes) → said_opening base (opening_of old) ≡ full (some s) (some a) → OpeningLaid base (opening_of old) → OpeningLaid ref (opening_of opening) → BothIs base ref result (front_items (said_opening ref (opening_of opening)) s a) }
+fn front(base: Input, reference: Input) -> Both
+    requires base_accepted { Accepted base.bytes.now (found_of base.found) }
+    requires reference_accepted { Accepted reference.bytes.now (found_of reference.found) }
+    ensures { (s : Scheme Bytes) (a : Authority Bytes) → said_opening base.entry.bytes.now (opening_of base.entry.found.opening) ≡ full (some s) (some a) → BothIs base.entry.bytes.now reference.entry.bytes.now result (front_items (said_opening reference.entry.bytes.now (opening_of reference.entry.found.opening)) s a) }
 {
-    match old {
-        OpeningAt::Discard(_) => no_both(),
-        OpeningAt::DiscardAll => no_both(),
-        OpeningAt::Full(_, authority) => front_at(authority.at, authority.next, opening),
+    let OpeningAt::Full(_, old) = base.found.opening else {
+        return NO_BOTH
+    };
+    match reference.found.opening {
+        OpeningAt::Discard(_) | OpeningAt::DiscardAll => Both {
+            base: between(1, old.next),
+            reference: NOWHERE,
+        },
+        OpeningAt::Full(scheme, own) => match scheme {
+            None => Both {
+                base: between(1, old.at),
+                reference: between(own.at, own.next),
+            },
+            Some(_) => Both {
+                base: NOWHERE,
+                reference: between(1, own.next),
+            },
+        },
     }
 }
 
 // ---- path
 
-fn no_row() -> RowSpan
-    ensures { result ≡ record { start = 0; length = 0; count = 0 } }
-{
-    RowSpan {
-        start: 0,
-        length: 0,
-        count: 0,
-    }
-}
-
-// The segments of a path, which end at a position.
-fn row_of(path: Slot, end: usize) -> RowSpan
-    requires { Ends (slot_of path) end }
-    ensures { (bs : Bytes) → PathLaid bs (slot_of path) end → RowIs bs result (elements (said_texts bs (slot_of path))) }
-{
-    match path {
-        Slot::Unset => no_row(),
-        Slot::Set { at, count } => RowSpan {
-            start: at,
-            length: end - at,
-            count: count,
-        },
-    }
-}
-
 // A path of one empty segment becomes no path: no other path has one byte.
 fn normal_row(row: RowSpan) -> RowSpan
     ensures { (bs : Bytes) (ts : List Bytes) → RowIs bs row ts → RowIs bs result (normal_path ts) }
 {
-    if row.length < 2 {
-        return no_row();
-    }
-    row
+    if row.span.length < 2 { NO_ROW } else { row }
 }
 
 // The segments without the last k, or none if there are fewer.
@@ -200,16 +170,11 @@ fn without_last(s: &[u8], row: RowSpan, k: u64) -> RowSpan
     if k == 0 {
         return row;
     }
-    if row.count as u64 <= k {
-        return no_row();
-    }
-    let start = row.start;
-    let count = row.count - (k as usize);
-    let end = cbor_rows::after(s, start, count);
+    let start = row.span.start;
+    let count = row.count.saturating_sub(k as usize);
     RowSpan {
-        start: start,
-        length: end - start,
-        count: count,
+        span: between(start, cbor_rows::after(s, start, count)),
+        count,
     }
 }
 
@@ -220,153 +185,191 @@ fn kept_row(s: &[u8], row: RowSpan, opening: OpeningAt) -> RowSpan
 {
     match opening {
         OpeningAt::Discard(k) => without_last(s, row, k),
-        OpeningAt::DiscardAll => no_row(),
-        OpeningAt::Full(_, _) => no_row(),
+        OpeningAt::DiscardAll | OpeningAt::Full(_, _) => NO_ROW,
     }
 }
 
 // What stays of the base's path, and then the reference's; one empty segment is no path.
-fn joined(old: RowSpan, new: RowSpan) -> Path
+fn joined(old: RowSpan, new: RowSpan) -> Counted
     requires { Small old × Small new }
     ensures { (base ref : Bytes) (ts us : List Bytes) → RowIs base old ts → RowIs ref new us → PathIs base ref result (normal_path (ts ++ us)) }
 {
-    if old.length + new.length < 2 {
-        return Path {
-            texts: no_both(),
+    if old.span.length + new.span.length < 2 {
+        return Counted {
+            both: NO_BOTH,
             count: 0,
         };
     }
-    Path {
-        texts: Both {
-            base: Span {
-                start: old.start,
-                length: old.length,
-            },
-            reference: Span {
-                start: new.start,
-                length: new.length,
-            },
+    Counted {
+        both: Both {
+            base: old.span,
+            reference: new.span,
         },
         count: old.count + new.count,
     }
 }
 
-// ---- query and fragment
-
-fn is_set(slot: Slot) -> bool
-    ensures { result ≡ is_set (slot_of slot) }
+fn path_of(base: Input, reference: Input) -> Counted
+    requires base_accepted { Accepted base.bytes.now (found_of base.found) }
+    requires reference_accepted { Accepted reference.bytes.now (found_of reference.found) }
+    ensures { PathIs base.entry.bytes.now reference.entry.bytes.now result (normal_path (kept (opening_of reference.entry.found.opening) (normal_path (elements (said_texts base.entry.bytes.now (slot_of base.entry.found.path)))) ++ elements (said_texts reference.entry.bytes.now (slot_of reference.entry.found.path)))) }
 {
-    match slot {
-        Slot::Unset => false,
-        Slot::Set { .. } => true,
-    }
+    let old = kept_row(
+        base.bytes,
+        normal_row(base.segments()),
+        reference.found.opening,
+    );
+    joined(old, reference.segments())
 }
 
+// ---- query and fragment
+
 // Whether the base's query stays: nothing is discarded, and no path is set.
-fn keeps_query(opening: OpeningAt, path: Slot) -> bool
+fn keeps_query(opening: OpeningAt, path: Option<Row>) -> bool
     ensures { result ≡ keeps_query (opening_of opening) (slot_of path) }
 {
-    match opening {
-        OpeningAt::Discard(k) => {
-            if 0 < k {
-                return false;
-            }
-            match path {
-                Slot::Unset => true,
-                Slot::Set { .. } => false,
-            }
-        }
-        OpeningAt::DiscardAll => false,
-        OpeningAt::Full(_, _) => false,
-    }
+    matches!(opening, OpeningAt::Discard(0)) && path.is_none()
 }
 
 // Whether the result has the base's query.
-fn takes_query(old: Slot, opening: OpeningAt, path: Slot, query: Slot) -> bool
-    ensures { result ≡ takes_query (slot_of old) (opening_of opening) (slot_of path) (slot_of query) }
+fn takes_query(base: Found, reference: Found) -> bool
+    ensures { result ≡ takes_query (slot_of base.query) (opening_of reference.opening) (slot_of reference.path) (slot_of reference.query) }
 {
-    if is_set(query) {
-        return false;
-    }
-    if is_set(old) {
-        return keeps_query(opening, path);
-    }
-    false
+    base.query.is_some()
+        && reference.query.is_none()
+        && keeps_query(reference.opening, reference.path)
 }
 
 // How many items they are, where there is a query or none.
-fn count_further(query: bool, fragment: Slot) -> usize
-    ensures { result ≡ further_of query (slot_of fragment) }
+fn count_further(query: bool, fragment: Option<Span>) -> usize
+    ensures { result ≡ further_of query (text_of fragment) }
 {
     match fragment {
-        Slot::Set { .. } => 2,
-        Slot::Unset => if query { 1 } else { 0 },
+        Some(_) => 2,
+        None => usize::from(query),
     }
 }
 
 // The base's query where it stays, and the reference's fragment; else the reference's query and fragment.
-fn tail_of(base: &[u8], b: Found, reference: &[u8], r: Found) -> Tail
-    requires base_tail { TailLaid base.now (slot_of b.query) (slot_of b.fragment) }
-    requires reference_tail { TailLaid reference.now (slot_of r.query) (slot_of r.fragment) }
-    ensures { TailIs base.now reference.now result (or (said_texts reference.now (slot_of r.query)) (cond (keeps_query (opening_of r.opening) (slot_of r.path)) (said_texts base.now (slot_of b.query)) none)) (said_text reference.now (slot_of r.fragment)) }
+fn tail_of(base: Input, reference: Input) -> Counted
+    requires base_accepted { Accepted base.bytes.now (found_of base.found) }
+    requires reference_accepted { Accepted reference.bytes.now (found_of reference.found) }
+    ensures { TailIs base.entry.bytes.now reference.entry.bytes.now result (or (said_texts reference.entry.bytes.now (slot_of reference.entry.found.query)) (cond (keeps_query (opening_of reference.entry.found.opening) (slot_of reference.entry.found.path)) (said_texts base.entry.bytes.now (slot_of base.entry.found.query)) none)) (said_text reference.entry.bytes.now (text_of reference.entry.found.fragment)) }
 {
-    let old = b.query;
-    let old_fragment = b.fragment;
-    let opening = r.opening;
-    let path = r.path;
-    let query = r.query;
-    let fragment = r.fragment;
-    let end = reference.len();
-    if takes_query(old, opening, path, query) {
-        let from = tail_start(base.len(), old, old_fragment);
-        let to = fragment_start(base.len(), old_fragment);
-        return Tail {
-            items: Both {
-                base: between(from, to),
-                reference: between(fragment_start(end, fragment), end),
+    let found = reference.found;
+    let end = reference.bytes.len();
+    if takes_query(base.found, found) {
+        return Counted {
+            both: Both {
+                base: between(base.tail_start(), base.fragment_start()),
+                reference: between(reference.fragment_start(), end),
             },
-            count: count_further(true, fragment),
+            count: count_further(true, found.fragment),
         };
     }
-    Tail {
-        items: Both {
-            base: nowhere(),
-            reference: between(tail_start(end, query, fragment), end),
+    Counted {
+        both: Both {
+            base: NOWHERE,
+            reference: between(reference.tail_start(), end),
         },
-        count: count_further(is_set(query), fragment),
+        count: count_further(found.query.is_some(), found.fragment),
     }
 }
 
 // ---- the whole
 
-fn path_of(base: &[u8], b: Found, reference: &[u8], r: Found) -> Path
-    requires base_laid { Laid base.now (found_of b) × (length base.now ≤ limits.bytes) }
-    requires reference_laid { Laid reference.now (found_of r) × (length reference.now ≤ limits.bytes) }
-    ensures { PathIs base.now reference.now result (normal_path (kept (opening_of r.opening) (normal_path (elements (said_texts base.now (slot_of b.path)))) ++ elements (said_texts reference.now (slot_of r.path)))) }
+// The parts of the result.
+pub fn parts_of(base: Input, reference: Input) -> Parts
+    requires base_accepted { Accepted base.bytes.now (found_of base.found) }
+    requires reference_accepted { Accepted reference.bytes.now (found_of reference.found) }
+    ensures { (c : Cri) → absolute (meaning base.entry.bytes.now (found_of base.entry.found)) ≡ some c → PartsAre base.entry.bytes.now reference.entry.bytes.now result (rules_resolve c (meaning reference.entry.bytes.now (found_of reference.entry.found))) }
 {
-    let old = b.path;
-    let old_query = b.query;
-    let old_fragment = b.fragment;
-    let opening = r.opening;
-    let path = r.path;
-    let query = r.query;
-    let fragment = r.fragment;
-    let row = normal_row(row_of(old, tail_start(base.len(), old_query, old_fragment)));
-    let new = row_of(path, tail_start(reference.len(), query, fragment));
-    joined(kept_row(base, row, opening), new)
+    Parts {
+        front: front(base, reference),
+        path: path_of(base, reference),
+        tail: tail_of(base, reference),
+    }
 }
 
-// The parts of the result.
-pub fn parts_of(base: &[u8], b: Found, reference: &[u8], r: Found) -> Parts
-    requires base_laid { Laid base.now (found_of b) × (length base.now ≤ limits.bytes) }
-    requires reference_laid { Laid reference.now (found_of r) × (length reference.now ≤ limits.bytes) }
-    ensures { (c : Cri) → absolute (meaning base.now (found_of b)) ≡ some c → PartsAre base.now reference.now result (rules_resolve c (meaning reference.now (found_of r))) }
+// ---- the bytes of a result
+
+// How many items the path is: one where it has segments or `further` items follow it, else none.
+#[tactic(auto, using(crate::proofs::ResultItems::items_path, crate::proofs::ResultItems::items_null, crate::proofs::ResultItems::items_none))]
+fn path_items(segments: usize, further: usize) -> usize
+    ensures { result ≡ path_items segments further }
 {
-    let old = b.opening;
-    let opening = r.opening;
-    Parts {
-        front: front(old, opening),
-        path: path_of(base, b, reference, r),
-        tail: tail_of(base, b, reference, r),
+    match (segments, further) {
+        (0, 0) => 0,
+        _ => 1,
+    }
+}
+
+#[tactic(auto, using(crate::proofs::ResultItems::head_path, crate::proofs::ResultItems::null_length, crate::proofs::ResultItems::head_none))]
+fn path_head_length(segments: usize, further: usize) -> usize
+    ensures { result ≡ length (path_head segments further) }
+{
+    match (segments, further) {
+        (0, 0) => 0,
+        (0, _) => 1,
+        _ => head_length(segments as u64),
+    }
+}
+
+#[tactic(auto, using(crate::proofs::ResultItems::head_path, crate::proofs::ResultItems::head_null, crate::proofs::ResultItems::head_none))]
+fn put_path_head(room: &mut [u8], at: usize, segments: usize, further: usize) -> usize
+    requires { at + length (path_head segments further) ≤ length room.old }
+    ensures { Wrote room.old at (path_head segments further) room.new result }
+{
+    match (segments, further) {
+        (0, 0) => at,
+        (0, _) => put_head(room, at, Kind::Null, 22),
+        _ => put_head(room, at, Kind::Array, segments as u64),
+    }
+}
+
+impl Both {
+    fn length(self) -> usize
+        requires { BothSmall self }
+        ensures { result ≡ self.base.length + self.reference.length }
+    {
+        self.base.length + self.reference.length
+    }
+
+    fn put(self, room: &mut [u8], at: usize, base: &[u8], reference: &[u8]) -> usize
+        requires both_inside { BothInside base.now reference.now self }
+        requires length_in_bounds { at + (self.base.length + self.reference.length) ≤ length room.old }
+        ensures { Wrote room.old at (both_of base.now reference.now self) room.new result }
+    {
+        let mid = put_bytes(room, at, self.base.of(base));
+        put_bytes(room, mid, self.reference.of(reference))
+    }
+}
+
+impl Parts {
+    // How many bytes the result has.
+    #[tactic(auto, using(crate::proofs::ResultItems::head_most_path))]
+    pub fn length(self) -> usize
+        requires { PartsSmall self }
+        ensures { (base ref : Bytes) → PartsInside base ref self → result ≡ length (parts_of base ref self) }
+    {
+        1 + self.front.length()
+            + path_head_length(self.path.count, self.tail.count)
+            + self.path.both.length()
+            + self.tail.both.length()
+    }
+
+    // The result, from the start of the room on.
+    #[tactic(auto, using(crate::proofs::ResultItems::items_most))]
+    pub fn put(self, room: &mut [u8], base: &[u8], reference: &[u8]) -> usize
+        requires parts_small { PartsSmall self × PartsInside base.now reference.now self }
+        requires room_enough { length (parts_of base.now reference.now self) ≤ length room.old }
+        ensures { Wrote room.old 0 (parts_of base.now reference.now self) room.new result }
+    {
+        let count = 2 + path_items(self.path.count, self.tail.count) + self.tail.count;
+        let a = put_head(room, 0, Kind::Array, count as u64);
+        let b = self.front.put(room, a, base, reference);
+        let c = put_path_head(room, b, self.path.count, self.tail.count);
+        let d = self.path.both.put(room, c, base, reference);
+        self.tail.both.put(room, d, base, reference)
     }
 }

@@ -9,13 +9,13 @@ ghost use Rattle.outcomes.specs.Answers.{outcome_is};
 ghost use Rattle.round_trip.specs.Again.{again};
 ghost use Rattle.round_trip.specs.Rereading.{Rereads};
 
-use cri::{Components, Outcome, Reading, Spans, Verdict};
+use cri::{Components, Outcome, Refusal, Spans};
 
 // What writing answered, and what reading answers of the bytes that it wrote.
-#[derive(Clone, Copy)]
+#[derive(Clone, Copy, Debug, PartialEq, Eq)]
 pub struct ReadBack {
     pub written: Outcome,
-    pub reading: Reading,
+    pub reading: Result<Components, Refusal>,
 }
 
 // Reads s, and writes the components that reading reports, with s as the lent bytes, into the room: the refusal that reading has for s;
@@ -25,13 +25,8 @@ pub fn rewrite(s: &[u8], spans: &mut Spans, room: &mut [u8]) -> Outcome
     ensures room_after { room.new ≡ after (again limits s.now) room.old }
     ensures spans_after { spans.new ≡ spans_after (read_call limits s.now) spans.old }
 {
-    let reading = cri::read(s, spans);
-    let verdict = reading.verdict;
-    let components = reading.components;
-    match verdict {
-        Verdict::Refused(refusal) => Outcome::Refused(refusal),
-        Verdict::Accepted => cri::write(components, spans, s, room),
-    }
+    let components = cri::read(s, spans)?;
+    cri::write(components, spans, s, room)
 }
 
 // Writes a reference from components and spans, whose texts and addresses stand in `lent`, into the room, as cri::write does, and reads what
@@ -49,7 +44,7 @@ pub fn reread(
     let written = cri::write(components, spans, lent, room);
     let n = outcomes::written(written);
     ReadBack {
-        written: written,
+        written,
         reading: cri::read(&room[..n], found),
     }
 }

@@ -1,4 +1,5 @@
 pub mod Tools
+pub mod Slices
 pub mod Steps
 pub mod Heads
 pub mod Texts

@@ -8,6 +8,7 @@ use mathlib.Core.Logic.{◌↔◌}
 use lib.ListN.{length, take}
 use lib.Dec.{eqb}
 use borrow.Author.Tests.{eqb-true}
+use Rattle.std.specs.Prelude.{Result, Ok, Err}
 use Rattle.rules.specs.Bytes.{Bytes, Octets, same}
 use Rattle.rules.specs.Result.{Res, refused, ok, given, ◌>>=◌}
 use Rattle.rules.specs.Model.{Limits, limits, Cri, Same}
@@ -22,10 +23,7 @@ use Rattle.rules.proofs.CallNumbers.{told_within, told_done, untouched, BaseRead
 use Rattle.rules.proofs.Absolutes.{absolute_size}
 use Rattle.rules.proofs.Proved.{demand3_proved, bound_proved}
 use Rattle.refusals.specs.declared.Refusal.{Refusal}
-use Rattle.refusals.specs.declared.Verdict.{Verdict}
 use Rattle.refusals.specs.Answers.{verdict_is}
-use Rattle.outcomes.specs.declared.Outcome.{Outcome}
-use Rattle.outcomes.specs.declared.Outcome.TheVariants as OutcomeV
 use Rattle.outcomes.specs.Answers.{outcome_is}
 use Rattle.outcomes.proofs.Answers.{Right}
 use Rattle.sameness.specs.declared.Compared.{Compared}
@@ -40,14 +38,14 @@ same_equal (c ∷ s) [] e = never e
 same_equal (c ∷ s) (d ∷ t) e = ap₂ (λ (x : ℕ) (xs : Bytes). x ∷ xs) (eqb-true c d (and_left (eqb c d) (same s t) e)) (same_equal s t (and_right (eqb c d) (same s t) e))
 
 -- where one of two calls is refused, the answer is false
-pub first_refused : {m n : Outcome} {x y : Bytes} (r : Refusal) → m ≡ OutcomeV.Refused r → (false ≡ true) ↔ WroteSame m n x y
+pub first_refused : {m n : Result ℕ Refusal} {x y : Bytes} (r : Refusal) → m ≡ Err r → (false ≡ true) ↔ WroteSame m n x y
 first_refused r e = (λ t. never t, λ w. refused_ok _ _ _ (sym (ap outcome_is e) ∙ w.first))
 
-pub second_refused : {m n : Outcome} {x y : Bytes} (r : Refusal) → n ≡ OutcomeV.Refused r → (false ≡ true) ↔ WroteSame m n x y
+pub second_refused : {m n : Result ℕ Refusal} {x y : Bytes} (r : Refusal) → n ≡ Err r → (false ≡ true) ↔ WroteSame m n x y
 second_refused r e = (λ t. never t, λ w. refused_ok _ _ _ (sym (ap outcome_is e) ∙ w.second))
 
 -- where both are done, it is the comparison of what they wrote
-pub wrote_both : {m n : Outcome} {i j : ℕ} {x y : Bytes} {r : Bool} → m ≡ OutcomeV.Written i → n ≡ OutcomeV.Written j → r ≡ same (take i x) (take j y)
+pub wrote_both : {m n : Result ℕ Refusal} {i j : ℕ} {x y : Bytes} {r : Bool} → m ≡ Ok i → n ≡ Ok j → r ≡ same (take i x) (take j y)
     → (r ≡ true) ↔ WroteSame m n x y
 wrote_both {m} {n} {i} {j} {x} {y} d e f = (
   λ t. record { one = i; other = j; first = ap outcome_is d; second = ap outcome_is e; bytes = same_equal (take i x) (take j y) (sym f ∙ t) },
@@ -182,7 +180,7 @@ module _ (a b x y s t : Bytes) (r : Compared) (ha : Octets a) (hb : Octets b) (p
       }
 
 -- with rooms that are long enough for every accepted input, the verdicts are those of reading
-pub both_judged : (a b : Bytes) (j k : ℕ) (r : Compared) (v w : Verdict) → Octets a → Octets b → 3 * limits.bytes + 13 ≤ j → 3 * limits.bytes + 13 ≤ k
+pub both_judged : (a b : Bytes) (j k : ℕ) (r : Compared) (v w : Result (Unit {0}) Refusal) → Octets a → Octets b → 3 * limits.bytes + 13 ≤ j → 3 * limits.bytes + 13 ≤ k
     → verdict_is v ≡ verdict (outcome_is r.first) → verdict_is w ≡ verdict (outcome_is r.second) → Answered a b j k r
     → Judged a b (record { first = v; second = w; equal = r.equal })
 both_judged a b j k r v w ha hb lj lk dv dw h =

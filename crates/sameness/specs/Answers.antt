@@ -1,5 +1,5 @@
 -- What comparing two links answers.
-use Rattle.std.specs.Prelude.{ℕ, ◌≤◌, ◌≡◌, true, ◌↔◌, length, take}
+use Rattle.std.specs.Prelude.{Result, ℕ, ◌≤◌, ◌≡◌, true, ◌↔◌, length, take}
 use Rattle.rules.specs.Bytes.{Bytes}
 use Rattle.rules.specs.Result.{ok}
 use Rattle.rules.specs.Model.{limits, Cri, Same}
@@ -7,8 +7,8 @@ use Rattle.rules.specs.Meaning.{read_absolute}
 use Rattle.rules.specs.Text.{uri_text}
 use Rattle.rules.specs.Views.{verdict}
 use Rattle.rules.specs.Calls.{number_of, length_of, outcome, text_call}
+use Rattle.refusals.specs.declared.Refusal.{Refusal}
 use Rattle.refusals.specs.Answers.{verdict_is}
-use Rattle.outcomes.specs.declared.Outcome.{Outcome}
 use Rattle.outcomes.specs.Answers.{outcome_is}
 use Rattle.sameness.specs.declared.Compared.{Compared}
 use Rattle.sameness.specs.declared.Judgement.{Judgement}
@@ -22,7 +22,7 @@ pub record SameCri (a b : Bytes) : Type 0 where
   pub same : Same one other
 
 -- RULES 3.1: two calls, which left their rooms as x and y, are both done, and what they wrote is equal, length and bytes
-pub record WroteSame (m n : Outcome) (x y : Bytes) : Type 0 where
+pub record WroteSame (m n : Result ℕ Refusal) (x y : Bytes) : Type 0 where
   pub one : ℕ
   pub other : ℕ
   pub first : outcome_is m ≡ ok one
@@ -30,7 +30,7 @@ pub record WroteSame (m n : Outcome) (x y : Bytes) : Type 0 where
   pub bytes : take one x ≡ take other y
 
 -- it is done
-abbrev pub Done : Outcome → Type 0
+abbrev pub Done : Result ℕ Refusal → Type 0
 Done m = verdict (outcome_is m) ≡ ok tt
 
 -- any two inputs a and b, with rooms of j and k bytes: what RULES 3.1, 3.4 and 3.7 say of each call; `equal` is true exactly if both calls
@@ -41,7 +41,7 @@ pub record Answered (a b : Bytes) (j k : ℕ) (r : Compared) : Type 0 where
   pub equal : (r.equal ≡ true) ↔ (Done r.first × Done r.second × SameCri a b)
 
 -- the length that a call tells
-abbrev pub length_told : Outcome → ℕ
+abbrev pub length_told : Result ℕ Refusal → ℕ
 length_told m = length_of (outcome_is m)
 
 -- both URI texts (RULES 6.1) are written, into rooms that are left as x and y; they are equal, length and bytes, exactly if the two are

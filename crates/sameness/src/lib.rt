@@ -11,10 +11,10 @@ ghost use Rattle.sameness.specs.Answers.{WroteSame, Answered, CallsDemand3, Judg
 
 use cri::Outcome;
 use numbers::TEXT_ROOM;
-use refusals::Verdict;
+use refusals::Refusal;
 
 // What the two calls answered, and whether both wrote a text and the two texts are equal.
-#[derive(Clone, Copy)]
+#[derive(Clone, Copy, Debug, PartialEq, Eq)]
 pub struct Compared {
     pub first: Outcome,
     pub second: Outcome,
@@ -22,10 +22,10 @@ pub struct Compared {
 }
 
 // Of each link, whether it is accepted as absolute, or the refusal; and whether both are, and are the same CRI.
-#[derive(Clone, Copy)]
+#[derive(Clone, Copy, Debug, PartialEq, Eq)]
 pub struct Judgement {
-    pub first: Verdict,
-    pub second: Verdict,
+    pub first: Result<(), Refusal>,
+    pub second: Result<(), Refusal>,
     pub equal: bool,
 }
 
@@ -35,22 +35,20 @@ fn wrote_same(first: Outcome, second: Outcome, x: &[u8], y: &[u8]) -> bool
     ensures { (result ≡ true) ↔ WroteSame first second x.now y.now }
 {
     match first {
-        Outcome::Refused(_) => false,
-        Outcome::Written(n) => match second {
-            Outcome::Refused(_) => false,
-            Outcome::Written(m) => same_bytes::same_at(x, 0, n, &y[..m]),
+        Err(_) => false,
+        Ok(n) => match second {
+            Err(_) => false,
+            Ok(m) => same_bytes::same(&x[..n], &y[..m]),
         },
     }
 }
 
 // Whether a call is done, or its refusal.
-fn verdict_of(outcome: Outcome) -> Verdict
+fn verdict_of(outcome: Outcome) -> Result<(), Refusal>
     ensures { verdict_is result ≡ verdict (outcome_is outcome) }
 {
-    match outcome {
-        Outcome::Written(_) => Verdict::Accepted,
-        Outcome::Refused(refusal) => Verdict::Refused(refusal),
-    }
+    outcome?;
+    Ok(())
 }
 
 // Writes the URI text of the first link into the room x and that of the second into the room y, and compares what was written. Each call
@@ -77,11 +75,9 @@ pub fn judge(first: &[u8], second: &[u8]) -> Judgement
     let mut x = [0u8; TEXT_ROOM];
     let mut y = [0u8; TEXT_ROOM];
     let compared = compare(first, second, &mut x, &mut y);
-    let one = compared.first;
-    let other = compared.second;
     Judgement {
-        first: verdict_of(one),
-        second: verdict_of(other),
+        first: verdict_of(compared.first),
+        second: verdict_of(compared.second),
         equal: compared.equal,
     }
 }

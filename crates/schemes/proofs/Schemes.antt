@@ -1,4 +1,5 @@
 -- Scheme numbers and the negative integers that carry them: what the code computes at 64 bits, and the way there and back.
+use Rattle.std.specs.Prelude.{Some, None}
 use Prim.Native.Nat.{ℕ, zero, suc, ◌≤◌, ◌<◌, ◌^◌}
 use native.Mathlib.Omega.{arith}
 use mathlib.Core.Path.{◌≡◌, refl, sym, ap, ◌∙◌, subst}
@@ -12,54 +13,52 @@ use mir.Val.{SFits, Fits, to_z, of_z}
 use mir.Facts.{to_z-of_z}
 use Rattle.rules.proofs.Tools.{cond_yes, cond_no}
 use Rattle.schemes.specs.Schemes.{Below, scheme_id, scheme_number}
-use Rattle.schemes.specs.declared.SchemeId.TheVariants as SchemeIdV
-use Rattle.schemes.specs.declared.SchemeNumber.TheVariants as SchemeNumberV
 
 -- ---- the ends, and the way there and back
 
 -- -1 carries the number 0, and -10 the number 9
-pub ends : (scheme_number (negsuc 0) ≡ SchemeNumberV.Is 0) × (scheme_number (negsuc 9) ≡ SchemeNumberV.Is 9)
+pub ends : (scheme_number (negsuc 0) ≡ Some 0) × (scheme_number (negsuc 9) ≡ Some 9)
 ends = (refl, refl)
 
 -- 64 bits hold -1 - n for each n below 2^63
-pub id_fits : (n : ℕ) → n < 2 ^ 63 → SchemeIdV.Is (negsuc n) ≡ scheme_id n
+pub id_fits : (n : ℕ) → n < 2 ^ 63 → Some (negsuc n) ≡ scheme_id n
 id_fits n h = sym (cond_yes (ltb n (2 ^ 63)) _ _ (lt-ltb n (2 ^ 63) h))
 
-pub id_too_large : (n : ℕ) → 2 ^ 63 ≤ n → SchemeIdV.TooLarge ≡ scheme_id n
+pub id_too_large : (n : ℕ) → 2 ^ 63 ≤ n → None ≡ scheme_id n
 id_too_large n h = sym (cond_no (ltb n (2 ^ 63)) _ _ (le-ltb n (2 ^ 63) h))
 
 -- what the integer of a number is, and that 64 bits hold it
-pub id_is : (n : ℕ) (z : ℤ) → scheme_id n ≡ SchemeIdV.Is z → (z ≡ negsuc n) × (n < 2 ^ 63)
+pub id_is : (n : ℕ) (z : ℤ) → scheme_id n ≡ Some z → (z ≡ negsuc n) × (n < 2 ^ 63)
 id_is n z e = of (ltb n (2 ^ 63)) refl e
   where
-    of : (t : Bool) → ltb n (2 ^ 63) ≡ t → cond t (SchemeIdV.Is (negsuc n)) SchemeIdV.TooLarge ≡ SchemeIdV.Is z
+    of : (t : Bool) → ltb n (2 ^ 63) ≡ t → cond t (Some (negsuc n)) None ≡ Some z
         → (z ≡ negsuc n) × (n < 2 ^ 63)
     of true h e = (cc, ltb-true n (2 ^ 63) h)
     of false h e = let q : ◌≡◌ {A = ℕ} 0 1 = cc in absurd (omega arith)
 
 -- the same of the integer as the code hands it on
-pub id_read : (n : ℕ) (z : ℤ) → scheme_id n ≡ SchemeIdV.Is z → to_z w64 (of_z w64 z) ≡ negsuc n
+pub id_read : (n : ℕ) (z : ℤ) → scheme_id n ≡ Some z → to_z w64 (of_z w64 z) ≡ negsuc n
 id_read n z e = rw (id_is n z e).0 (to_z-of_z {w = w64} {z = negsuc n} (record { sfits = (id_is n z e).1 }))
 
 -- a number comes back from the integer that carries it
-pub number_back : (n : ℕ) (z : ℤ) → scheme_id n ≡ SchemeIdV.Is z → scheme_number z ≡ SchemeNumberV.Is n
+pub number_back : (n : ℕ) (z : ℤ) → scheme_id n ≡ Some z → scheme_number z ≡ Some n
 number_back n z e = ap scheme_number (id_is n z e).0
 
-module _ (n : ℕ) (z : ℤ) (e : scheme_id n ≡ SchemeIdV.Is z) where
-  read : scheme_number (to_z w64 (of_z w64 z)) ≡ SchemeNumberV.Is n
+module _ (n : ℕ) (z : ℤ) (e : scheme_id n ≡ Some z) where
+  read : scheme_number (to_z w64 (of_z w64 z)) ≡ Some n
   read = ap scheme_number (id_read n z e)
 
-  pub number_read : (m : ℕ) → scheme_number (to_z w64 (of_z w64 z)) ≡ SchemeNumberV.Is m → m ≡ n
-  number_read m h = let q : SchemeNumberV.Is n ≡ SchemeNumberV.Is m = sym read ∙ h in cc
+  pub number_read : (m : ℕ) → scheme_number (to_z w64 (of_z w64 z)) ≡ Some m → m ≡ n
+  number_read m h = let q : Some n ≡ Some m = sym read ∙ h in cc
 
-  pub negative_read : scheme_number (to_z w64 (of_z w64 z)) ≡ SchemeNumberV.NotNegative → ⊥
+  pub negative_read : scheme_number (to_z w64 (of_z w64 z)) ≡ None → ⊥
   negative_read h =
-      let q : SchemeNumberV.Is n ≡ SchemeNumberV.NotNegative = sym read ∙ h in
+      let q : Some n ≡ None = sym read ∙ h in
       let x : ◌≡◌ {A = ℕ} 0 1 = cc in
       omega arith
 
 -- an integer of 64 bits comes back from the number that it carries
-pub id_back : (z : ℤ) (n : ℕ) → SFits w64 z → scheme_number z ≡ SchemeNumberV.Is n → scheme_id n ≡ SchemeIdV.Is z
+pub id_back : (z : ℤ) (n : ℕ) → SFits w64 z → scheme_number z ≡ Some n → scheme_id n ≡ Some z
 id_back (negsuc m) n f e = let q : m ≡ n = cc in ap scheme_id (sym q) ∙ sym (id_fits m f.sfits)
 id_back (pos m) n f e = let q : ◌≡◌ {A = ℕ} 0 1 = cc in absurd (omega arith)
 
@@ -134,6 +133,6 @@ pub below : (z : ℤ) → lt_z z (pos 0) ≡ true → Below z
 below (negsuc n) h = tt
 below (pos n) h = omega (arith, ltb-true n 0 h)
 
-pub not_below : (z : ℤ) → lt_z z (pos 0) ≡ false → SchemeNumberV.NotNegative ≡ scheme_number z
+pub not_below : (z : ℤ) → lt_z z (pos 0) ≡ false → None ≡ scheme_number z
 not_below (pos n) h = refl
 not_below (negsuc n) h = cc

@@ -1,4 +1,6 @@
 -- The table's entries: by the id that a match found, and what they say.
+use Rattle.std.specs.Prelude as P
+use Rattle.std.specs.Prelude.{Some, None}
 use Prim.Native.Nat.{ℕ, ◌+◌, ◌≤◌, ◌<◌}
 use native.Mathlib.Omega.{arith}
 use mathlib.Core.Path.{◌≡◌, refl, sym, ap, ◌∙◌, subst}
@@ -23,27 +25,15 @@ use Rattle.rules.proofs.Openings.{no_scheme_lem}
 use Rattle.rules.proofs.OptionsBack.{entry_in, default_port_lem}
 use Rattle.put.specs.Wrote.{Wrote}
 use Rattle.put.proofs.Wrote.{wrote_none}
-use Rattle.schemes.specs.declared.SchemeId.TheVariants as SchemeIdV
 use Rattle.schemes.specs.declared.Entry.{Entry}
-use Rattle.schemes.specs.Schemes.{scheme_id, entry_of, entry_port, EntryIs}
+use Rattle.schemes.specs.Schemes.{scheme_id, entry_of, EntryIs}
 use Rattle.schemes.specs.Schemes.{known_id, default_port, same_name, known_name}
 use Rattle.schemes.proofs.Schemes.{id_read}
 
-pub entry_as : {a b : Bytes} {at : ℕ} {m m' : Option SchemeEntry} {r : Entry} → m ≡ m'
-    → EntryIs a at m b r → EntryIs a at m' b r
-entry_as {a} {b} {at} {m} {m'} {r} e h = subst (λ (x : Option SchemeEntry). EntryIs a at x b r) e h
-
-pub entry_none : {l : Bytes} {at : ℕ} {m : Option SchemeEntry} → m ≡ none
-    → EntryIs l at m l (record { length = 0; port = 0 })
-entry_none {l} {at} e =
-    let w : Wrote l at [] l (at + 0) = record { bytes = (wrote_none {l = l} {i = at}).bytes; place = refl } in
-    entry_as (sym e) (record { wrote = λ h. w; size = refl; port = refl })
-
 -- ---- a match on an id, which the code holds as `of_z w64 z`
 
-pub entry_at : {z : ℤ} {k : ℕ} {a b : Bytes} {at : ℕ} {r : Entry} → SFits w64 z → of_z w64 z ≡ k
-    → EntryIs a at (entry_of (to_z w64 k)) b r → EntryIs a at (entry_of z) b r
-entry_at f e h = entry_as (ap entry_of (sym (ap (to_z w64) e) ∙ to_z-of_z {w = w64} f)) h
+pub entry_at : {z : ℤ} {k : ℕ} (r : P.Option Entry) → SFits w64 z → of_z w64 z ≡ k → EntryIs (entry_of (to_z w64 k)) r → EntryIs (entry_of z) r
+entry_at r f e h = subst (λ (m : Option SchemeEntry). EntryIs m r) (ap entry_of (sym (ap (to_z w64) e) ∙ to_z-of_z {w = w64} f)) h
 
 -- no other id has an entry
 abbrev Other : ℤ → ℕ → Type 0
@@ -56,13 +46,13 @@ no_entry (negsuc n) a b c d e f =
     no_scheme_lem n (no 0 a) (no 1 b) (no 6 c) (no 7 d) (no 8 e) (no 9 f)
 
 -- the entry of a number is that of its id; a number that no id carries has none
-pub id_entry : (n : ℕ) (z : ℤ) → scheme_id n ≡ SchemeIdV.Is z → entry_of (to_z w64 (of_z w64 z)) ≡ scheme_in schemes n
+pub id_entry : (n : ℕ) (z : ℤ) → scheme_id n ≡ Some z → entry_of (to_z w64 (of_z w64 z)) ≡ scheme_in schemes n
 id_entry n z e = ap entry_of (id_read n z e)
 
-pub too_large_entry : (n : ℕ) → scheme_id n ≡ SchemeIdV.TooLarge → scheme_in schemes n ≡ none
+pub too_large_entry : (n : ℕ) → scheme_id n ≡ None → scheme_in schemes n ≡ none
 too_large_entry n e = no_scheme_lem n (no 0 refl) (no 1 refl) (no 6 refl) (no 7 refl) (no 8 refl) (no 9 refl)
   where
-    no : (k : ℕ) → scheme_id k ≡ SchemeIdV.Is (negsuc k) → n ≡ k → ⊥
+    no : (k : ℕ) → scheme_id k ≡ Some (negsuc k) → n ≡ k → ⊥
     no k h q = let x : scheme_id n ≡ scheme_id k = ap scheme_id q in let z : ◌≡◌ {A = ℕ} 0 1 = cc in omega arith
 
 -- ---- what an entry says
@@ -105,33 +95,33 @@ unfolding known_scheme
 known_entry (pos n) = refl
 known_entry (negsuc n) = known_in schemes each_sized n
 
-pub known_id_lem : (n : ℕ) (z : ℤ) → scheme_id n ≡ SchemeIdV.Is z → known_id (to_z w64 (of_z w64 z)) ≡ known_scheme n
+pub known_id_lem : (n : ℕ) (z : ℤ) → scheme_id n ≡ Some z → known_id (to_z w64 (of_z w64 z)) ≡ known_scheme n
 known_id_lem n z e = ap known_id (id_read n z e)
 
-pub too_large_unknown : (n : ℕ) → scheme_id n ≡ SchemeIdV.TooLarge → known_scheme n ≡ false
+pub too_large_unknown : (n : ℕ) → scheme_id n ≡ None → known_scheme n ≡ false
 too_large_unknown n e = sym (known_entry (negsuc n)) ∙ rw (too_large_entry n e)
 
--- no name: no entry
-pub no_name : (n : ℕ) → length (entry_name (scheme_in schemes n)) ≡ 0 → scheme_in schemes n ≡ none
-no_name n h = of (scheme_in schemes n) (entry_sized n) h
+-- of what the code says of an entry
+entry_there : (m : Option SchemeEntry) (r : P.Option Entry) → If Sized m → EntryIs m r → P.is_some r ≡ not (eqb (length (entry_name m)) 0)
+entry_there none None s h = refl
+entry_there none (Some r) s h = absurd h
+entry_there (some e) None s h = absurd h
+entry_there (some e) (Some r) s h = ap not (sym (ne_eqb (length e.name) 0 (λ q. omega (arith, s.0))))
+
+pub entry_known : (z : ℤ) (r : P.Option Entry) → EntryIs (entry_of z) r → P.is_some r ≡ known_id z
+entry_known z r h = entry_there (entry_of z) r (sized z) h ∙ known_entry z
   where
-    of : (m : Option SchemeEntry) → If Sized m → length (entry_name m) ≡ 0 → m ≡ none
-    of none i e = refl
-    of (some x) i e = absurd (omega (arith, i.0))
+    sized : (z : ℤ) → If Sized (entry_of z)
+    sized (pos n) = tt
+    sized (negsuc n) = entry_sized n
 
--- a name: an entry
-named : (P : Option SchemeEntry → Type 0) → ((e : SchemeEntry) → P (some e)) → (m : Option SchemeEntry)
-    → (length (entry_name m) ≡ 0 → ⊥) → P m
-named P f none h = absurd (h refl)
-named P f (some e) h = f e
+pub no_entry_is : (m : Option SchemeEntry) {r : P.Option Entry} → EntryIs m r → r ≡ None → m ≡ none
+no_entry_is none h e = refl
+no_entry_is (some x) {r} h e = absurd (rw e at h)
 
-pub port_of_lem : (m : Option SchemeEntry) → (length (entry_name m) ≡ 0 → ⊥)
-    → some (entry_port m) ≡ map (λ (e : SchemeEntry). e.port) m
-port_of_lem = named (λ m. some (entry_port m) ≡ map (λ (e : SchemeEntry). e.port) m) (λ e. refl)
-
-pub same_entry : (t : Bytes) (m : Option SchemeEntry) → (length (entry_name m) ≡ 0 → ⊥)
-    → same t (entry_name m) ≡ same_name t m
-same_entry t = named (λ m. same t (entry_name m) ≡ same_name t m) (λ e. refl)
+pub port_is : (m : Option SchemeEntry) {r : P.Option Entry} (x : Entry) → EntryIs m r → r ≡ Some x → some x.port ≡ map (λ (e : SchemeEntry). e.port) m
+port_is none x h e = absurd (rw e at h)
+port_is (some m) x h e = ap some (rw e at h).1
 
 -- a default port has 16 bits
 pub default_most : (n d : ℕ) → default_port n ≡ some d → d ≤ 65535

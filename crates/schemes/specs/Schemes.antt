@@ -1,18 +1,11 @@
 -- RULES 1.6: a scheme number n is carried as the negative integer -1 - n, which is `negsuc n`. What the code says of
 -- the table's entries.
-use Rattle.std.specs.Prelude.{ℕ, ◌+◌, ◌≤◌, ◌^◌, ◌≡◌, Bool, false, cond, ℤ, pos, negsuc, length, ltb}
+use Rattle.std.specs.Prelude as P
+use Rattle.std.specs.Prelude.{Some, None, ℕ, ◌+◌, ◌≤◌, ◌^◌, ◌≡◌, Bool, false, cond, ℤ, pos, negsuc, length, ltb}
 use Rattle.std.proofs.Math.Option.{Option, none, some, map}
 use Rattle.rules.specs.Bytes.{Bytes, any, same}
 use Rattle.rules.specs.Rules.{SchemeEntry, schemes, scheme_in, known_scheme}
-use Rattle.rules.specs.Text.{entry_name}
-use Rattle.put.specs.Wrote.{Wrote}
-use Rattle.schemes.specs.declared.SchemeId.{SchemeId}
-use Rattle.schemes.specs.declared.SchemeId.TheVariants as SchemeIdV
-use Rattle.schemes.specs.declared.SchemeNumber.{SchemeNumber}
-use Rattle.schemes.specs.declared.SchemeNumber.TheVariants as SchemeNumberV
 use Rattle.schemes.specs.declared.Entry.{Entry}
-use Rattle.schemes.specs.declared.DefaultPort.{DefaultPort}
-use Rattle.schemes.specs.declared.DefaultPort.TheVariants as DefaultPortV
 
 -- ---- scheme ids
 
@@ -22,13 +15,13 @@ Below (pos n) = ⊥
 Below (negsuc n) = Unit {0}
 
 -- the integer that carries a scheme number, if 64 bits hold it
-abbrev pub scheme_id : ℕ → SchemeId
-scheme_id n = cond (ltb n (2 ^ 63)) (SchemeIdV.Is (negsuc n)) SchemeIdV.TooLarge
+abbrev pub scheme_id : ℕ → P.Option ℤ
+scheme_id n = cond (ltb n (2 ^ 63)) (Some (negsuc n)) None
 
 -- the scheme number that an integer carries
-abbrev pub scheme_number : ℤ → SchemeNumber
-scheme_number (pos n) = SchemeNumberV.NotNegative
-scheme_number (negsuc n) = SchemeNumberV.Is n
+abbrev pub scheme_number : ℤ → P.Option ℕ
+scheme_number (pos n) = None
+scheme_number (negsuc n) = Some n
 
 -- ---- the table
 
@@ -37,20 +30,12 @@ abbrev pub entry_of : ℤ → Option SchemeEntry
 entry_of (pos n) = none
 entry_of (negsuc n) = scheme_in schemes n
 
--- its default port, and 0 where there is none
-abbrev pub entry_port : Option SchemeEntry → ℕ
-entry_port none = 0
-entry_port (some e) = e.port
-
--- r says how long the name w is, and the port p; w was written where there is room
-pub record RowIs (before : Bytes) (at : ℕ) (w : Bytes) (p : ℕ) (after : Bytes) (r : Entry) : Type 0 where
-  pub wrote : at + length w ≤ length before → Wrote before at w after (at + r.length)
-  pub size : r.length ≡ length w
-  pub port : r.port ≡ p
-
--- the same of the name and the port of an entry
-abbrev pub EntryIs : Bytes → ℕ → Option SchemeEntry → Bytes → Entry → Type 0
-EntryIs before at m after r = RowIs before at (entry_name m) (entry_port m) after r
+-- what the code says of an entry: its name and its default port
+abbrev pub EntryIs : Option SchemeEntry → P.Option Entry → Type 0
+EntryIs none None = Unit {0}
+EntryIs none (Some r) = ⊥
+EntryIs (some e) None = ⊥
+EntryIs (some e) (Some r) = (r.name.now ≡ e.name) × (r.port ≡ e.port)
 
 -- ---- what is asked of it
 
@@ -62,11 +47,6 @@ known_id (negsuc n) = known_scheme n
 -- RULES 1.6: the default port of a scheme number
 unfoldable pub default_port : ℕ → Option ℕ
 default_port n = map (λ (e : SchemeEntry). e.port) (scheme_in schemes n)
-
--- what the code says of it
-abbrev pub default_is : DefaultPort → Option ℕ
-default_is (DefaultPortV.Is p) = some p
-default_is DefaultPortV.Unknown = none
 
 -- the text is the name of an entry
 abbrev pub same_name : Bytes → Option SchemeEntry → Bool

@@ -1,2 +1,2 @@
--- Parts of a slice, and what the code's answers say of them.
+-- Parts of a slice.
 pub mod Shown

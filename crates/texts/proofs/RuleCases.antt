@@ -1,22 +1,24 @@
 -- The rules, case by case.
-use Prim.Native.Nat.{ℕ, ◌+◌, ◌*◌, ◌-◌, ◌≤◌, ◌<◌}
+use Prim.Native.Nat.{ℕ, zero, suc, ◌+◌, ◌≤◌, ◌<◌}
 use native.Mathlib.Omega.{arith}
 use mathlib.Core.Path.{◌≡◌, refl, sym, ap, ◌∙◌}
-use mathlib.Core.Bool.{Bool, true, false, not, ◌&&◌, ◌||◌, and_assoc}
+use mathlib.Core.Bool.{Bool, true, false, not, ◌&&◌, ◌||◌}
 use mathlib.Core.List.{List, [], ◌∷◌}
-use lib.ListN.{length, get_or, length-append}
-use lib.Dec.{leb}
+use lib.ListN.{length, length-append}
+use lib.Dec.{leb, eqb}
 use borrow.Author.Tests.{le-leb, lt-leb, leb-true, leb-false, eq-eqb, ne_eqb}
+use Rattle.std.specs.List.{list_all, sum_by, fold}
 use Rattle.rules.specs.Bytes.{Bytes, part, within, all, any, same, join, dot}
 use Rattle.rules.specs.Result.{refused, ok, need, ◌>>=◌, ◌>>◌, CUT, LIMIT, TEXT, RULE}
 use Rattle.rules.specs.Utf8.{utf8}
-use Rattle.rules.specs.Head.{Head}
-use Rattle.rules.specs.Rules.{Sort, schemes, scheme_byte, scheme_rule, scheme_name, lower, digit, starts_lower, octet, looks_ipv4, name_rule}
-use Rattle.rules.specs.Reader.{read_content, text_body, contents}
-use Rattle.rules.proofs.Tools.{by_test, length_part, part_cons}
+use Rattle.rules.specs.Head.{Head, head_at}
+use Rattle.rules.specs.Standing.{RowAt}
+use Rattle.rules.specs.Rules.{Sort, schemes, scheme_byte, scheme_rule, scheme_name, starts_lower, octet, looks_ipv4, name_rule, segment_rule}
+use Rattle.rules.specs.Reader.{read_content, text_body, contents, spans, end_at}
+use Rattle.rules.proofs.Tools.{by_test, length_part}
 use Rattle.rules.proofs.Steps.{need_yes, need_no, bind_ok, bind_refused, Ok, ok_any, ok_map, ok_need}
 use Rattle.rules.proofs.Texts.{ok_content, length_contents}
-use Rattle.rules.proofs.RowWalk.{First}
+use Rattle.rules.proofs.RowWalk.{first}
 use Rattle.schemes.specs.Schemes.{known_name}
 use Rattle.texts.specs.Answers.{scheme_form, sort_is, dotted_length}
 use Rattle.texts.specs.declared.Sort.TheVariants as SortV
@@ -27,6 +29,13 @@ pub not_any : {A : Type 0} (p : A → Bool) (xs : List A) → not (any p xs) ≡
 unfolding any all
 not_any p [] = refl
 not_any p (x ∷ xs) = by_test (λ t. not (t || any p xs) ≡ (not t && all (λ x. not (p x)) xs)) (p x) (λ e. refl) (λ e. not_any p xs)
+
+-- ---- the library's test of each
+
+pub list_all_is_all : {A : Type 0} (p : A → Bool) (xs : List A) → list_all p xs ≡ all p xs
+unfolding all
+list_all_is_all p [] = refl
+list_all_is_all p (x ∷ xs) = ap (λ (t : Bool). p x && t) (list_all_is_all p xs)
 
 -- ---- a text, by the first of its tests that fails
 
@@ -94,58 +103,32 @@ module _ (bs : Bytes) (at : ℕ) (h : Head) where
       (λ l. let o = leb-false _ _ l in sym (text_cut n bs at h w o) ∙ bind_refused _ _ _ _ (text_cut f bs at h w o)))
       (λ w. sym (text_limit n bs at h w) ∙ bind_refused _ _ _ _ (text_limit f bs at h w))
 
--- ---- parts of a few bytes
-
-module _ (s : Bytes) (from n : ℕ) (l : from + n ≤ length s) where
-  pub part_one : n ≡ 1 → part s from n ≡ get_or s from 0 ∷ []
-  part_one e = part_cons s from n (from + 1) 0 (omega arith) e (omega arith)
-
-  pub part_two : n ≡ 2 → part s from n ≡ get_or s from 0 ∷ get_or s (from + 1) 0 ∷ []
-  part_two e =
-      part_cons s from n (from + 1) 1 (omega arith) e (omega arith)
-      ∙ ap (λ (xs : Bytes). get_or s from 0 ∷ xs) (part_cons s (from + 1) 1 (from + 2) 0 (omega arith) refl (omega arith))
-
-  pub part_three : n ≡ 3 → part s from n ≡ get_or s from 0 ∷ get_or s (from + 1) 0 ∷ get_or s (from + 2) 0 ∷ []
-  part_three e =
-      part_cons s from n (from + 1) 2 (omega arith) e (omega arith)
-      ∙ ap (λ (xs : Bytes). get_or s from 0 ∷ xs) (part_cons s (from + 1) 2 (from + 2) 1 (omega arith) refl (omega arith))
-      ∙ ap (λ (xs : Bytes). get_or s from 0 ∷ get_or s (from + 1) 0 ∷ xs) (part_cons s (from + 2) 1 (from + 3) 0 (omega arith) refl (omega arith))
-
-  pub starts : (n ≡ 0 → ⊥) → lower (get_or s from 0) ≡ starts_lower (part s from n)
-  unfolding starts_lower
-  starts h = sym (ap starts_lower (part_cons s from n (from + 1) (n - 1) (omega arith) (omega arith) (omega arith)))
-
-  -- a decimal up to 255 has one to three digits
-  pub no_octet : (n ≡ 1 → ⊥) → (n ≡ 2 → ⊥) → (n ≡ 3 → ⊥) → false ≡ octet (part s from n)
-  unfolding octet
-  no_octet a b c = other (part s from n) (length_part s from n l)
-    where
-      other : (t : Bytes) → length t ≡ n → false ≡ octet t
-      other [] e = refl
-      other (x ∷ []) e = absurd (a (sym e))
-      other (x ∷ y ∷ []) e = absurd (b (sym e))
-      other (x ∷ y ∷ z ∷ []) e = absurd (c (sym e))
-      other (x ∷ y ∷ z ∷ w ∷ t) e = refl
-
--- three digits are two and one more
-pub octet_three : (a b c : ℕ) → octet (a ∷ b ∷ c ∷ []) ≡ (octet (a ∷ b ∷ []) && (octet (c ∷ []) && leb (a * 100 + b * 10 + c) 5583))
-unfolding octet
-octet_three a b c = sym (and_assoc (within 0x31 0x39 a) (digit b) _)
+-- neither "." nor ".."
+pub long_segment : (t : Bytes) → 3 ≤ length t → true ≡ segment_rule t
+unfolding segment_rule
+long_segment [] h = absurd (omega arith)
+long_segment (a ∷ []) h = absurd (omega arith)
+long_segment (a ∷ b ∷ []) h = absurd (omega arith)
+long_segment (a ∷ b ∷ c ∷ t) h = by_test (λ x. true ≡ (not (x && false) && not (x && (eqb b 0x2E && false)))) (eqb a 0x2E) (λ _. by_test (λ y. true ≡ not (y && false)) (eqb b 0x2E) (λ _. refl) (λ _. refl)) (λ _. refl)
 
 -- ---- labels
 
-module _ (bs : Bytes) (here left start n : ℕ) (f : First bs here left start n) where
-  pub dotted_next : dotted_length (contents bs here left) ≡ n + 1 + dotted_length (contents bs (start + n) (left - 1))
-  unfolding dotted_length
-  dotted_next = ap dotted_length f.content ∙ ap (λ (k : ℕ). k + 1 + dotted_length (contents bs (start + n) (left - 1))) (length_part bs start n f.inside)
+-- each label stands after a byte of its head
+pub dotted_most : (bs : Bytes) (at n : ℕ) → RowAt bs at n → at ≤ length bs → at + dotted_length (contents bs at n) ≤ length bs
+unfolding dotted_length contents spans
+dotted_most bs at zero h l = omega arith
+dotted_most bs at (suc n) h l =
+    let f = first bs at (suc n) _ _ (omega arith) h refl in
+    let m = dotted_most bs (end_at bs at) n h.1 h.0.inside in
+    omega (arith, m, f.after, f.end, length_part bs (head_at bs at).next (head_at bs at).value f.inside)
 
-  pub all_next : (p : Bytes → Bool) → p (part bs start n) ≡ true → all p (contents bs here left) ≡ all p (contents bs (start + n) (left - 1))
-  unfolding all
-  all_next p e = ap (all p) f.content ∙ rw e
+sum_from : (n : ℕ) (ts : List Bytes) → fold (λ a x. a + (length x + 1)) n ts ≡ n + dotted_length ts
+unfolding dotted_length
+sum_from n [] = omega arith
+sum_from n (t ∷ ts) = omega (arith, sum_from (n + (length t + 1)) ts)
 
-  pub all_no : (p : Bytes → Bool) → p (part bs start n) ≡ false → all p (contents bs here left) ≡ false
-  unfolding all
-  all_no p e = ap (all p) f.content ∙ rw e
+pub dotted_sum : (ts : List Bytes) → sum_by (λ t. length t + 1) ts ≡ dotted_length ts
+dotted_sum ts = sum_from 0 ts ∙ omega arith
 
 -- with a dot after each, labels are one byte longer than with a dot between any two
 dotted_join : (t : Bytes) (ts : List Bytes) → dotted_length (t ∷ ts) ≡ length (join dot (t ∷ ts)) + 1

@@ -1,12 +1,9 @@
 -- What a text is and what is answered on it, in the terms of the rules.
 use Rattle.std.specs.Prelude.{ℕ, ◌+◌, Bool, ◌&&◌, List, [], ◌∷◌, length}
 use Rattle.rules.specs.Bytes.{Bytes, all}
-use Rattle.rules.specs.Result.{Res, refused, ok}
 use Rattle.rules.specs.Rules as Rules
 use Rattle.texts.specs.declared.Sort.{Sort}
 use Rattle.texts.specs.declared.Sort.TheVariants as SortV
-use Rattle.texts.specs.declared.Step.{Step}
-use Rattle.texts.specs.declared.Step.TheVariants as StepV
 
 -- RULES 1.7, but for the names of the table: a lower-case letter, then lower-case letters, digits, "+", "." or "-"
 unfoldable pub scheme_form : Bytes → Bool
@@ -19,11 +16,6 @@ sort_is SortV.Label = Rules.label
 sort_is SortV.Segment = Rules.segment
 sort_is SortV.Parameter = Rules.parameter
 sort_is SortV.Fragment = Rules.fragment_text
-
--- the answer on an item at a position: the position after it, or a refusal, whose place is the item's
-abbrev pub step_is : ℕ → Step → Res ℕ
-step_is at (StepV.Next next) = ok next
-step_is at (StepV.Refused n) = refused n at
 
 -- the length of labels, each with a dot after it
 unfoldable pub dotted_length : List Bytes → ℕ

@@ -1,18 +1,19 @@
 // The arguments of a command of cri_tool, and what is wrong with them.
 #![tactic(auto)]
 
-use numbers::PORT;
-use output::{STDERR, at_most};
+ghost use Rattle.std.specs.Prelude.{◌≤◌, length, IfOk};
+
 use std::env::{Env, FillError};
-use tool_input::{Destination, Hex};
+use std::fmt;
+use tool_input::{AddressError, HexError};
+use words::NumberError;
 
 // The descriptor of standard input.
 const STDIN: i32 = 0;
 
 // What is wrong with an argument.
-#[derive(Clone, Copy)]
+#[derive(Clone, Copy, Debug, PartialEq, Eq)]
 pub enum Fault {
-    None,
     Missing,
     Unknown,
     TooMany,
@@ -27,239 +28,192 @@ pub enum Fault {
     PortTooLarge,
 }
 
-pub fn is_fault(fault: Fault) -> bool {
-    match fault {
-        Fault::None => false,
-        _ => true,
+// What follows the argument's name.
+impl fmt::Display for Fault {
+    fn fmt<W: fmt::Write>(&self, f: &mut fmt::Formatter<W>) -> fmt::Result {
+        f.write_str(match self {
+            Fault::Missing => "is missing",
+            Fault::Unknown => "is unknown",
+            Fault::TooMany => {
+                "is followed by too many arguments: hex with blanks is to stand in quotation marks"
+            }
+            Fault::TooLong => "has over 32768 bytes or over 65535 characters",
+            Fault::TwoDashes => "can't be read from standard input too",
+            Fault::NotHex => "has a character that is no hex digit and no blank",
+            Fault::Odd => "has an odd number of hex digits",
+            Fault::NotDotted => "has a dot, and is not four numbers from 0 to 255",
+            Fault::NotIpv6 => "has a colon, and is no IPv6 address",
+            Fault::AddressTooLong => "has over 16 bytes",
+            Fault::NotDecimal => "is not a decimal number",
+            Fault::PortTooLarge => "is over 65535",
+        })
     }
 }
 
-pub fn warn(text: &[u8]) {
-    io::write_all(STDERR, text);
+// What the messages call an argument, and what is wrong with it.
+#[derive(Clone, Copy, Debug)]
+pub struct Complaint {
+    argument: &'static str,
+    fault: Fault,
 }
 
-// What is wrong, after the argument's name.
-pub fn warn_fault(fault: Fault) {
-    match fault {
-        Fault::None => return,
-        Fault::Missing => warn(b" is missing"),
-        Fault::Unknown => warn(b" is unknown"),
-        Fault::TooMany => warn(
-            b" is followed by too many arguments: hex with blanks is to stand in quotation marks",
-        ),
-        Fault::TooLong => warn(b" has over 32768 bytes or over 65535 characters"),
-        Fault::TwoDashes => warn(b" can't be read from standard input too"),
-        Fault::NotHex => warn(b" has a character that is no hex digit and no blank"),
-        Fault::Odd => warn(b" has an odd number of hex digits"),
-        Fault::NotDotted => warn(b" has a dot, and is not four numbers from 0 to 255"),
-        Fault::NotIpv6 => warn(b" has a colon, and is no IPv6 address"),
-        Fault::AddressTooLong => warn(b" has over 16 bytes"),
-        Fault::NotDecimal => warn(b" is not a decimal number"),
-        Fault::PortTooLarge => warn(b" is over 65535"),
+impl Fault {
+    pub fn of(self, argument: &'static str) -> Complaint {
+        Complaint {
+            argument,
+            fault: self,
+        }
     }
 }
 
-// How many bytes an argument says, at the start of a room; or what is wrong with it.
-#[derive(Clone, Copy)]
-pub struct TakenBytes {
-    pub length: usize,
-    pub fault: Fault,
-}
-
-fn no_bytes(fault: Fault) -> TakenBytes {
-    TakenBytes {
-        length: 0,
-        fault: fault,
+impl fmt::Display for Complaint {
+    fn fmt<W: fmt::Write>(&self, f: &mut fmt::Formatter<W>) -> fmt::Result {
+        let Complaint { argument, fault } = *self;
+        write!(f, "{argument} {fault}")
     }
 }
 
-fn bytes_of(hex: Hex) -> TakenBytes {
-    match hex {
-        Hex::Bytes(n) => TakenBytes {
-            length: n,
-            fault: Fault::None,
-        },
-        Hex::NotHex => no_bytes(Fault::NotHex),
-        Hex::Odd => no_bytes(Fault::Odd),
-        Hex::TooLong => no_bytes(Fault::TooLong),
+impl From<HexError> for Fault {
+    fn from(error: HexError) -> Fault {
+        match error {
+            HexError::NotHex => Fault::NotHex,
+            HexError::Odd => Fault::Odd,
+            HexError::TooLong => Fault::TooLong,
+        }
     }
 }
 
-// Whether there is an argument i.
+impl From<AddressError> for Fault {
+    fn from(error: AddressError) -> Fault {
+        match error {
+            AddressError::NotDotted => Fault::NotDotted,
+            AddressError::NotIpv6 => Fault::NotIpv6,
+            AddressError::Hex(HexError::TooLong) => Fault::AddressTooLong,
+            AddressError::Hex(error) => Fault::from(error),
+        }
+    }
+}
+
+impl From<NumberError> for Fault {
+    fn from(error: NumberError) -> Fault {
+        match error {
+            NumberError::NotDecimal => Fault::NotDecimal,
+            NumberError::TooLarge => Fault::PortTooLarge,
+        }
+    }
+}
+
+// Argument i, at the start of the room; `too_long` where it is longer.
+fn take(rt: &impl Env, room: &mut [u8], i: usize, too_long: Fault) -> Result<usize, Fault>
+    ensures { IfOk result (λ n. n ≤ length room.new) }
+{
+    rt.arg(i, room).map_err(|error| match error {
+        FillError::NotPresent => Fault::Missing,
+        FillError::TooLong => too_long,
+    })
+}
+
 fn is_given(rt: &impl Env, i: usize) -> bool {
-    match rt.arg(i, &mut []) {
-        Err(FillError::NotPresent) => false,
-        _ => true,
-    }
+    !matches!(rt.arg(i, &mut []), Err(FillError::NotPresent))
 }
 
 // Whether the argument is "-".
 fn is_dash(rt: &impl Env, i: usize) -> bool {
     let mut word = [0u8; 2];
     match rt.arg(i, &mut word) {
-        Ok(n) => check::same(&word[..n], b"-"),
+        Ok(n) => matches!(&word[..n], b"-"),
         Err(_) => false,
     }
 }
 
 // The bytes that hex on standard input says.
-fn take_input(room: &mut [u8]) -> TakenBytes {
+fn take_input(room: &mut [u8]) -> Result<&[u8], Fault> {
     let mut word = io::large_buffer();
     let mut scratch = io::large_buffer();
     let n = io::read_full(STDIN, &mut word);
-    if 65535 < n {
-        return no_bytes(Fault::TooLong);
+    if n == word.len() {
+        return Err(Fault::TooLong);
     }
-    bytes_of(tool_input::hex_bytes(room, &mut scratch, &word[..n]))
+    let n = tool_input::hex_bytes(room, &mut scratch, &word[..n])?;
+    Ok(&room[..n])
 }
 
 // The bytes that an argument of hex says.
-fn take_word(rt: &impl Env, room: &mut [u8], i: usize) -> TakenBytes {
+fn take_word<'a>(rt: &impl Env, room: &'a mut [u8], i: usize) -> Result<&'a [u8], Fault> {
     let mut word = io::large_buffer();
     let mut scratch = io::large_buffer();
-    match rt.arg(i, &mut word) {
-        Ok(n) => bytes_of(tool_input::hex_bytes(room, &mut scratch, &word[..n])),
-        Err(_) => no_bytes(Fault::TooLong),
-    }
-}
-
-// Whether another argument before this one is "-" too.
-fn was_dash(rt: &impl Env, i: usize) -> bool {
-    if i == 3 { is_dash(rt, 2) } else { false }
+    let n = take(rt, &mut word, i, Fault::TooLong)?;
+    let n = tool_input::hex_bytes(room, &mut scratch, &word[..n])?;
+    Ok(&room[..n])
 }
 
 // The bytes that argument i says, of `count` arguments in all.
-pub fn take_hex(rt: &impl Env, room: &mut [u8], i: usize, count: usize) -> TakenBytes {
+pub fn take_hex<'a>(
+    rt: &impl Env,
+    room: &'a mut [u8],
+    i: usize,
+    count: usize,
+) -> Result<&'a [u8], Fault> {
     if !is_given(rt, i) {
-        return no_bytes(Fault::Missing);
+        return Err(Fault::Missing);
     }
     if is_given(rt, count) {
-        return no_bytes(Fault::TooMany);
+        return Err(Fault::TooMany);
     }
-    if is_dash(rt, i) {
-        if was_dash(rt, i) {
-            return no_bytes(Fault::TwoDashes);
-        }
-        return take_input(room);
+    if !is_dash(rt, i) {
+        return take_word(rt, room, i);
     }
-    take_word(rt, room, i)
+    if i == 3 && is_dash(rt, 2) {
+        return Err(Fault::TwoDashes);
+    }
+    take_input(room)
 }
 
-// Puts a word at a place of the room. The result is the place after it; the length where it does not fit.
-fn put_word(room: &mut [u8], at: usize, word: &[u8]) -> usize {
-    let mut o = at;
-    let mut i = 0;
-    while i < word.len() {
-        if room.len() <= o {
-            return o;
-        }
-        room[o] = word[i];
-        o += 1;
-        i += 1;
-    }
-    o
-}
-
-// The same of an argument.
-fn put_argument(rt: &impl Env, room: &mut [u8], at: usize, i: usize) -> usize {
-    let mut word = io::buffer();
-    match rt.arg(i, &mut word) {
-        Ok(n) => put_word(room, at, &word[..n]),
-        Err(_) => room.len(),
-    }
-}
-
-// Arguments 2 and on, put after one another. The result is how long they are.
-fn join_arguments(rt: &impl Env, room: &mut [u8]) -> usize {
-    let mut at = 0;
+// Arguments 2 and on, each of 4,096 bytes at most, put after one another. The result is how long they are together.
+fn join_arguments(rt: &impl Env, room: &mut [u8]) -> Result<usize, Fault>
+    ensures { IfOk result (λ n. n ≤ length room.new) }
+{
+    let mut end = 0;
     for i in 2..usize::MAX {
-        if !is_given(rt, i) {
-            break;
+        let most = (room.len() - end).min(4096);
+        match take(rt, &mut room[end..end + most], i, Fault::TooLong) {
+            Ok(n) => end += n,
+            Err(Fault::Missing) => break,
+            Err(fault) => return Err(fault),
         }
-        at = put_argument(rt, room, at, i);
     }
-    at
+    Ok(end)
 }
 
 // The bytes that all arguments after the command say together.
-pub fn take_joined(rt: &impl Env, room: &mut [u8]) -> TakenBytes {
+pub fn take_joined<'a>(rt: &impl Env, room: &'a mut [u8]) -> Result<&'a [u8], Fault> {
     if !is_given(rt, 3) {
         return take_hex(rt, room, 2, 3);
     }
-    let mut word = io::large_buffer();
+    let mut word = [0u8; 65535];
     let mut scratch = io::large_buffer();
-    let n = join_arguments(rt, &mut word);
-    if 65535 < n {
-        return no_bytes(Fault::TooLong);
-    }
-    let k = at_most(n, &word);
-    bytes_of(tool_input::hex_bytes(room, &mut scratch, &word[..k]))
-}
-
-fn address_of(address: Destination) -> TakenBytes {
-    match address {
-        Destination::Bytes(n) => TakenBytes {
-            length: n,
-            fault: Fault::None,
-        },
-        Destination::NotDotted => no_bytes(Fault::NotDotted),
-        Destination::NotIpv6 => no_bytes(Fault::NotIpv6),
-        Destination::NotHex => no_bytes(Fault::NotHex),
-        Destination::Odd => no_bytes(Fault::Odd),
-        Destination::TooLong => no_bytes(Fault::AddressTooLong),
-    }
+    let n = join_arguments(rt, &mut word)?;
+    let n = tool_input::hex_bytes(room, &mut scratch, &word[..n])?;
+    Ok(&room[..n])
 }
 
 // The bytes of the address that argument i says.
-pub fn take_address(rt: &impl Env, room: &mut [u8], i: usize) -> TakenBytes {
+pub fn take_address<'a>(
+    rt: &impl Env,
+    room: &'a mut [u8; 16],
+    i: usize,
+) -> Result<&'a [u8], Fault> {
     let mut word = io::buffer();
     let mut scratch = io::buffer();
-    match rt.arg(i, &mut word) {
-        Ok(n) => address_of(tool_input::address_bytes(room, &mut scratch, &word[..n])),
-        Err(FillError::NotPresent) => no_bytes(Fault::Missing),
-        Err(FillError::TooLong) => no_bytes(Fault::AddressTooLong),
-    }
-}
-
-// A port, or what is wrong with it.
-#[derive(Clone, Copy)]
-pub struct TakenPort {
-    pub value: u16,
-    pub fault: Fault,
-}
-
-fn no_port(fault: Fault) -> TakenPort {
-    TakenPort {
-        value: 0,
-        fault: fault,
-    }
-}
-
-fn port_of(n: u64) -> TakenPort {
-    if n <= PORT {
-        return TakenPort {
-            value: n as u16,
-            fault: Fault::None,
-        };
-    }
-    no_port(Fault::PortTooLarge)
-}
-
-// The port that a word says.
-fn port_said(word: &[u8]) -> TakenPort {
-    match words::decimal(word) {
-        words::Number::Is(v) => port_of(v),
-        words::Number::NotDecimal => no_port(Fault::NotDecimal),
-        words::Number::TooLarge => no_port(Fault::PortTooLarge),
-    }
+    let n = take(rt, &mut word, i, Fault::AddressTooLong)?;
+    let n = tool_input::address_bytes(room, &mut scratch, &word[..n])?;
+    Ok(&room[..n])
 }
 
 // The port that argument i says.
-pub fn take_port(rt: &impl Env, i: usize) -> TakenPort {
+pub fn take_port(rt: &impl Env, i: usize) -> Result<u16, Fault> {
     let mut word = io::buffer();
-    match rt.arg(i, &mut word) {
-        Ok(n) => port_said(&word[..n]),
-        Err(FillError::NotPresent) => no_port(Fault::Missing),
-        Err(FillError::TooLong) => no_port(Fault::PortTooLarge),
-    }
+    let n = take(rt, &mut word, i, Fault::PortTooLarge)?;
+    let port = words::decimal(&word[..n])?;
+    u16::try_from(port).map_err(|_| Fault::PortTooLarge)
 }

@@ -1,37 +1,44 @@
 // A link item by item: where each stands, its bytes, and what it says in words; and the whole in diagnostic notation.
 #![tactic(auto)]
 
+mod items;
 mod lines;
 mod meanings;
 mod notation;
-mod walk;
 
-use lines::{say_fault, say_items};
+use items::{Item, Items};
+use lines::{say_fault, say_item};
 use notation::say_notation;
 use numbers::BYTES;
-use output::{STDOUT, at_most};
-use reader::Answer;
+use output::Output;
 use refusals::Refusal;
 use tool_messages::say_refusal;
 
 // The items before the one at fault, and that one. Of an input that is too long no item is looked at.
-fn say_refused(s: &[u8], refusal: Refusal) {
+fn say_refused(out: &mut Output, s: &[u8], refusal: Refusal) {
     if BYTES < s.len() {
-        return say_refusal(STDOUT, b"HEX", s, refusal);
+        return say_refusal(out, "HEX", s, refusal);
     }
-    let w = say_items(s, at_most(refusal.place, s));
-    say_fault(s, w, refusal.number);
+    let at = refusal.place.min(s.len());
+    let (before, rest) = s.split_at(at);
+    let mut items = Items::of(before);
+    for item in items.by_ref() {
+        say_item(out, item);
+    }
+    say_fault(out, Item::read(rest, at, items.place), refusal.reason);
 }
 
-fn say_accepted(s: &[u8]) {
-    say_items(s, s.len());
-    say_notation(s);
+fn say_accepted(out: &mut Output, s: &[u8]) {
+    for item in Items::of(s) {
+        say_item(out, item);
+    }
+    say_notation(out, s);
 }
 
 // A line for each item of a link, up to the one at fault if there is one; then, of a link that is accepted, its diagnostic notation.
-pub fn say_dump(s: &[u8]) {
+pub fn say_dump(out: &mut Output, s: &[u8]) {
     match reader::read(s) {
-        Answer::Is(_) => say_accepted(s),
-        Answer::Refused(refusal) => say_refused(s, refusal),
+        Ok(_) => say_accepted(out, s),
+        Err(refusal) => say_refused(out, s, refusal),
     }
 }

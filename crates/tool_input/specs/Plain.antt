@@ -1,8 +1,8 @@
 -- What people type as hex: upper or lower case, with blanks anywhere.
-use Rattle.std.specs.Prelude.{ℕ, ◌+◌, Bool, cond, ◌||◌, [], ◌∷◌, ◌++◌, length, eqb, ltb}
+use Rattle.std.specs.Prelude.{Result, Ok, Err, ℕ, ◌+◌, Bool, cond, ◌||◌, [], ◌∷◌, ◌++◌, length, eqb, ltb}
 use Rattle.rules.specs.Bytes.{Bytes, within}
-use Rattle.words.specs.declared.Hex.{Hex}
-use Rattle.words.specs.declared.Hex.TheVariants as HexV
+use Rattle.words.specs.declared.HexError.{HexError}
+use Rattle.words.specs.declared.HexError.TheVariants as HexErrorV
 use Rattle.words.specs.Words.{hex_of}
 
 -- a space, a tab or the end of a line
@@ -22,5 +22,5 @@ plain [] = []
 plain (c ∷ cs) = plain_byte c ++ plain cs
 
 -- what a word says in a room of this length: blanks alone say no bytes; a word longer than the scratch is not looked at
-unfoldable pub typed_of : Bytes → ℕ → ℕ → Hex
-typed_of w scratch room = cond (ltb scratch (length w)) HexV.TooLong (cond (eqb (length (plain w)) 0) (HexV.Bytes 0) (hex_of (plain w) room))
+unfoldable pub typed_of : Bytes → ℕ → ℕ → Result ℕ HexError
+typed_of w scratch room = cond (ltb scratch (length w)) (Err HexErrorV.TooLong) (cond (eqb (length (plain w)) 0) (Ok 0) (hex_of (plain w) room))

@@ -1,26 +1,25 @@
 // Numbers, and how many there are of something.
-use crate::quotes::say;
-use output::STDOUT;
-
-pub fn say_number(n: u64) {
-    io::print_decimal(STDOUT, n);
-}
+use std::fmt;
 
 // The negative number -1 - n.
-pub fn say_negative(n: u64) {
-    if n == u64::MAX {
-        return say(b"-18446744073709551616");
+#[derive(Clone, Copy)]
+pub struct Negative(pub u64);
+
+impl fmt::Display for Negative {
+    fn fmt<W: fmt::Write>(&self, f: &mut fmt::Formatter<W>) -> fmt::Result {
+        let number = -1 - i128::from(self.0);
+        write!(f, "{number}")
     }
-    say(b"-");
-    say_number(n + 1);
 }
 
 // "1 segment", "2 segments".
-pub fn say_count(count: u64, thing: &[u8]) {
-    say_number(count);
-    say(b" ");
-    say(thing);
-    if count != 1 {
-        say(b"s");
+#[derive(Clone, Copy)]
+pub struct Count(pub u64, pub &'static str);
+
+impl fmt::Display for Count {
+    fn fmt<W: fmt::Write>(&self, f: &mut fmt::Formatter<W>) -> fmt::Result {
+        let Count(count, thing) = *self;
+        let ending = if count == 1 { "" } else { "s" };
+        write!(f, "{count} {thing}{ending}")
     }
 }

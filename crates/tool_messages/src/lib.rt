@@ -1,16 +1,15 @@
-// What people are told: references, refusals and options in words. Each function writes to standard output or to a descriptor.
+// What people are told: references, refusals and options in words.
 #![tactic(auto)]
 
 mod counts;
-mod dumps;
+mod marks;
 mod named;
 mod quotes;
 mod reasons;
 mod references;
 
-pub use counts::{say_count, say_negative, say_number};
-pub use dumps::{add_blanks, add_offset, say_marked};
+pub use counts::{Count, Negative};
 pub use named::say_options;
-pub use quotes::{say, say_address, say_bytes, say_hex, say_quoted};
+pub use quotes::{Address, Quoted, say_bytes};
 pub use reasons::{say_reason, say_refusal};
-pub use references::{say_components, say_scheme_name};
+pub use references::{SchemeName, say_components};

@@ -1,127 +1,73 @@
 // The options of a request, each by its name.
-ghost use Rattle.std.specs.Prelude.{◌≤◌, ◌<◌, length};
+ghost use Rattle.std.specs.Prelude.{◌≤◌, length, IfSome};
+ghost use Rattle.std.specs.Iterator.{at_most};
 
-use crate::quotes::{all_printable, say, say_bytes, say_quoted};
-use output::{STDOUT, least};
+use crate::quotes::{Quoted, is_printable, say_bytes};
+use output::Output;
 
-// One option: its number, where its value stands, and the place after it.
+// The options that are left, after one with this number.
 #[derive(Drop)]
-struct OptionAt {
-    number: usize,
-    from: usize,
-    end: usize,
+struct Options<'a> {
+    rest: &'a [u8],
+    number: u16,
 }
 
-// An option's name.
-fn say_name(number: usize) {
+// What a nibble says with the byte that may follow it, and what stands after. `cri::options` writes no more than one byte.
+fn extended(nibble: u8, s: &[u8]) -> Option<(u16, &[u8])>
+    ensures { IfSome result (λ p. length p.1.now ≤ length s.now) }
+{
+    match (nibble, s) {
+        (0..=12, rest) => Some((u16::from(nibble), rest)),
+        (13, [byte, rest @ ..]) => Some((13 + u16::from(*byte), rest)),
+        _ => None,
+    }
+}
+
+impl<'a> Iterator for Options<'a> {
+    type Item = (u16, &'a [u8]);
+
+    ghost remaining = { λ o. at_most (length o.rest.now) };
+
+    fn next(&mut self) -> Option<(u16, &'a [u8])> {
+        let (first, rest) = self.rest.split_first()?;
+        let (delta, rest) = extended(*first / 16, rest)?;
+        let (length, rest) = extended(*first % 16, rest)?;
+        let (value, rest) = rest.split_at_checked(usize::from(length))?;
+        self.number = self.number.saturating_add(delta);
+        self.rest = rest;
+        Some((self.number, value))
+    }
+}
+
+fn name_of(number: u16) -> &'static str {
     match number {
-        3 => say(b"Uri-Host  "),
-        7 => say(b"Uri-Port  "),
-        11 => say(b"Uri-Path  "),
-        15 => say(b"Uri-Query "),
-        _ => say(b"unknown   "),
+        3 => "Uri-Host",
+        7 => "Uri-Port",
+        11 => "Uri-Path",
+        15 => "Uri-Query",
+        _ => "unknown",
     }
 }
 
-fn two_bytes(high: u8, low: u8) -> u64 {
-    high as u64 * 256 + low as u64
-}
-
-// The number that at most two bytes say, the highest first: a port.
-fn port_of(value: &[u8]) -> u64 {
-    if value.len() == 0 {
-        return 0;
-    }
-    if value.len() == 1 {
-        return two_bytes(0, value[0]);
-    }
-    two_bytes(value[0], value[1])
-}
-
-// A value as text where that can be printed; a port as a number.
-fn say_meant(number: usize, value: &[u8]) {
-    if number == 7 {
-        say(b" ");
-        io::print_decimal(STDOUT, port_of(value));
-        return;
-    }
-    if all_printable(value) {
-        say(b" ");
-        say_quoted(value);
+// The number that at most two bytes say, the highest first.
+fn port_of(value: &[u8]) -> u16 {
+    match value {
+        [] => 0,
+        [low] => u16::from(*low),
+        [high, low, ..] => u16::from_be_bytes([*high, *low]),
     }
 }
 
-fn say_option(number: usize, value: &[u8]) {
-    say_name(number);
-    say_bytes(value);
-    say_meant(number, value);
-    say(b"\n");
-}
-
-// What a nibble says with the byte that may follow it, and the place after. `cri::options` writes no more than one byte.
-#[derive(Drop)]
-struct Extended {
-    number: usize,
-    next: usize,
-}
-
-// The number that nibble 13 and one byte more say.
-fn number_13(b: u8) -> usize
-    ensures { result ≤ 268 }
-{
-    b as usize + 13
-}
-
-fn number_of(nibble: u8) -> usize
-    ensures { result ≤ 268 }
-{
-    nibble as usize
-}
-
-fn extended_at(s: &[u8], nibble: u8, at: usize) -> Extended
-    requires { at ≤ length s.now }
-    ensures { (result.number ≤ 268) × (at ≤ result.next) × (result.next ≤ length s.now) }
-{
-    if nibble == 13 {
-        if at < s.len() {
-            return Extended {
-                number: number_13(s[at]),
-                next: at + 1,
-            };
+// Each option on a line of its own: name, value in hex, and as text where that can be printed, or a port as a number.
+pub fn say_options(out: &mut Output, s: &[u8]) {
+    for (number, value) in (Options { rest: s, number: 0 }) {
+        write!(out, "{:<10}", name_of(number));
+        say_bytes(out, value);
+        if number == 7 {
+            write!(out, " {}", port_of(value));
+        } else if value.iter().all(|b| is_printable(*b)) {
+            write!(out, " {}", Quoted(value));
         }
-    }
-    Extended {
-        number: number_of(nibble),
-        next: at,
-    }
-}
-
-// The option at a place, after one with the number `before`.
-fn option_at(s: &[u8], at: usize, before: usize) -> OptionAt
-    requires { (at < length s.now) × (before ≤ 65535) }
-    ensures { (result.number ≤ 65535) × (result.from ≤ result.end) × (at < result.end) × (result.end ≤ length s.now) }
-{
-    let b = s[at];
-    let delta = extended_at(s, b / 16, at + 1);
-    let size = extended_at(s, b % 16, delta.next);
-    let from = size.next;
-    OptionAt {
-        number: least(before + delta.number, 65535),
-        from: from,
-        end: from + least(size.number, s.len() - from),
-    }
-}
-
-// Each option on a line of its own: name, value in hex, and as text.
-pub fn say_options(s: &[u8]) {
-    let mut number = 0;
-    let mut at = 0;
-    while at < s.len() {
-        let option = option_at(s, at, number);
-        let from = option.from;
-        let end = option.end;
-        say_option(option.number, &s[from..end]);
-        number = option.number;
-        at = end;
+        out.byte(b'\n');
     }
 }

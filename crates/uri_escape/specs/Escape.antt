@@ -1,9 +1,7 @@
 -- What the code's classes and its table mean.
-use Rattle.std.specs.Prelude.{ℕ, ◌+◌, ◌≡◌, Bool, not, cond, eqb}
+use Rattle.std.specs.Prelude.{ℕ, ◌+◌, Bool, not, cond, eqb}
 use Rattle.std.specs.Int.Bits.{bit_and}
-use Rattle.rules.specs.Bytes.{Bytes, all}
 use Rattle.rules.specs.Text as T
-use Rattle.put.specs.Tables.{Entries}
 use Rattle.uri_escape.specs.declared.Class.{Class}
 use Rattle.uri_escape.specs.declared.Class.TheVariants.{Label, Segment, Parameter, Fragment}
 
@@ -31,11 +29,3 @@ entry b = 0x40 + share T.Label + share T.Segment + share T.Parameter + share T.F
   where
     share : T.Class → ℕ
     share k = cond (T.bare k b) (bit_of k) 0
-
--- an entry for each of the 256 bytes
-abbrev pub Table : Bytes → Type 0
-Table = Entries 256 entry
-
--- what a text's entries have in common: it names the classes that all of its bytes stand bare in
-abbrev pub Common : Bytes → ℕ → Type 0
-Common t e = (k : T.Class) → names e k ≡ all (T.bare k) t

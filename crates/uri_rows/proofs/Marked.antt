@@ -7,15 +7,19 @@ use lib.ListN.{length, length-append}
 use Rattle.rules.specs.Bytes.{Bytes, join}
 use Rattle.rules.specs.Head.{head_at}
 use Rattle.rules.specs.Reader.{end_at, spans, contents, content_at}
-use Rattle.rules.specs.Text.{Class, escape}
+use Rattle.rules.specs.Text.{Class, bare, escape_byte, escape}
 use Rattle.rules.specs.Standing.{RowAt}
 use Rattle.rules.proofs.Escapes.{escape_length}
-use Rattle.rules.proofs.Tools.{length_part}
+use Rattle.rules.proofs.Tools.{cond_split, length_part}
 use Rattle.put.specs.Joined.{further}
 use Rattle.put.proofs.Joined.{joined, further_none, further_step}
-use Rattle.uri_rows.specs.Marked.{marked_each}
 
 -- ---- texts after marks
+
+-- each escaped: the first after one mark, each further one after another
+unfoldable pub marked_each : Class → ℕ → ℕ → List Bytes → Bytes
+marked_each k first further [] = []
+marked_each k first further (t ∷ ts) = first ∷ (escape k t ++ marked_each k further further ts)
 
 module _ (k : Class) where
   -- all after one mark
@@ -35,6 +39,14 @@ module _ (k : Class) where
   marked_length a b c d [] = refl
   marked_length a b c d (t ∷ ts) =
       omega (arith, length-append (escape k t) (marked_each k b b ts), length-append (escape k t) (marked_each k d d ts), marked_length b b d d ts)
+
+  -- no text is longer than it is escaped
+  pub escape_least : (t : Bytes) → length t ≤ length (escape k t)
+  unfolding escape escape_byte
+  escape_least [] = omega arith
+  escape_least (b ∷ bs) =
+      let one : 1 ≤ length (escape_byte k b) = cond_split (λ (w : Bytes). 1 ≤ length w) (bare k b) (λ e. omega arith) (λ e. omega arith) in
+      omega (arith, one, escape_least bs, length-append (escape_byte k b) (escape k bs))
 
   -- the texts of items from a position on have at most three bytes for each byte from there on
   pub marked_most : (mark d : ℕ) (bs : Bytes) (at n : ℕ) → RowAt bs at n → length (marked_each k mark d (contents bs at n)) ≤ 3 * (length bs - at)

@@ -1,12 +1,12 @@
 -- What `lead_of` is on each range of lead bytes, by computing it at every byte of the range.
 use Prim.Native.Nat.{ℕ, ◌+◌, ◌-◌, ◌≤◌, ◌<◌}
 use native.Mathlib.Omega.{arith}
-use mathlib.Core.Path.{◌≡◌, refl, sym, subst}
+use mathlib.Core.Path.{◌≡◌, refl, subst}
 use mathlib.Core.Bool.{Bool, true, false, ◌&&◌}
-use lib.Dec.{ltb, eqb}
+use lib.Dec.{eqb}
 use borrow.Author.Tests.{eqb-true}
 use Rattle.rules.specs.Utf8.{Lead, follow, wrong, lead_of}
-use Rattle.rules.proofs.Tools.{never, and_left, and_right, cond_split, all_below, below}
+use Rattle.rules.proofs.Tools.{never, and_left, and_right, all_below, below}
 use Rattle.utf8.specs.Answers.{second_low, second_high}
 
 abbrev same_lead : Lead → Lead → Bool
@@ -35,17 +35,13 @@ on_range_lem f lo n b t l h =
     let e : lo + (b - lo) ≡ b = omega arith in
     subst (λ (x : ℕ). f x ≡ lead_of x) e (same_lead_lem _ _ (below n (λ i. same_lead (f (lo + i)) (lead_of (lo + i))) t (b - lo) (omega arith)))
 
-pub lead_one : (b : ℕ) → b < 0x80 → follow 0 0x80 0xBF ≡ lead_of b
-unfolding lead_of
-lead_one b h = on_range_lem (λ _. follow 0 0x80 0xBF) 0 0x80 b refl (omega arith) h
-
 pub lead_none : (b : ℕ) → 0x80 ≤ b → b < 0xC2 → wrong ≡ lead_of b
 unfolding lead_of
 lead_none b l h = on_range_lem (λ _. wrong) 0x80 0x42 b refl l h
 
-pub lead_two : (b : ℕ) → 0xC2 ≤ b → b < 0xE0 → follow 1 0x80 0xBF ≡ lead_of b
-unfolding lead_of
-lead_two b l h = on_range_lem (λ _. follow 1 0x80 0xBF) 0xC2 0x1E b refl l h
+pub lead_two : (b : ℕ) → 0xC2 ≤ b → b < 0xE0 → follow 1 (second_low b) (second_high b) ≡ lead_of b
+unfolding lead_of second_low second_high
+lead_two b l h = on_range_lem (λ b. follow 1 (second_low b) (second_high b)) 0xC2 0x1E b refl l h
 
 pub lead_three : (b : ℕ) → 0xE0 ≤ b → b < 0xF0 → follow 2 (second_low b) (second_high b) ≡ lead_of b
 unfolding lead_of second_low second_high
@@ -58,25 +54,3 @@ lead_four b l h = on_range_lem (λ b. follow 3 (second_low b) (second_high b)) 0
 pub lead_over : (b : ℕ) → 0xF5 ≤ b → b < 0x100 → wrong ≡ lead_of b
 unfolding lead_of
 lead_over b l h = on_range_lem (λ _. wrong) 0xF5 0x0B b refl l h
-
--- at most three bytes follow
-abbrev AtMost : Lead → Type 0
-AtMost (follow n low high) = n ≤ 3
-AtMost wrong = Unit {0}
-
-at_most : (b : ℕ) → AtMost (lead_of b)
-unfolding lead_of
-at_most b =
-    cond_split AtMost (ltb b 0x80) (λ t. omega arith)
-    (λ f. cond_split AtMost (ltb b 0xC2) (λ t. tt)
-    (λ f. cond_split AtMost (ltb b 0xE0) (λ t. omega arith)
-    (λ f. cond_split AtMost (ltb b 0xE1) (λ t. omega arith)
-    (λ f. cond_split AtMost (ltb b 0xED) (λ t. omega arith)
-    (λ f. cond_split AtMost (ltb b 0xEE) (λ t. omega arith)
-    (λ f. cond_split AtMost (ltb b 0xF0) (λ t. omega arith)
-    (λ f. cond_split AtMost (ltb b 0xF1) (λ t. omega arith)
-    (λ f. cond_split AtMost (ltb b 0xF4) (λ t. omega arith)
-    (λ f. cond_split AtMost (ltb b 0xF5) (λ t. omega arith) (λ f. tt))))))))))
-
-pub three_follow : (n low high b : ℕ) → follow n low high ≡ lead_of b → n ≤ 3
-three_follow n low high b e = subst AtMost (sym e) (at_most b)

@@ -1,24 +1,21 @@
 // The words of a request: bytes in lower-case hex, and decimal numbers.
 #![tactic(auto)]
 
-ghost use Rattle.std.specs.Prelude.{◌≡◌, true, ◌≤◌, length};
-ghost use Rattle.put.specs.Wrote.{Wrote};
-ghost use Rattle.words.specs.Words.{value_of, are_digits, some_digits, decimal_from, if_fits, number_of, pair_bytes, is_dash, if_held, hex_of, room_after};
+ghost use Rattle.std.specs.Prelude.{◌≡◌, ◌+◌, ◌*◌, ◌/◌, ◌≤◌, true, length, IfOk};
+ghost use Rattle.std.proofs.lemmas.List.Edits.{sets};
+ghost use Rattle.words.specs.Words.{digit, are_digits, if_fits, number_of, pair_bytes, hex_of, room_after};
 
-// What a decimal word says.
-#[derive(Clone, Copy)]
-pub enum Number {
-    Is(u64),
+// Why a word says no number.
+#[derive(Clone, Copy, Debug, PartialEq, Eq)]
+pub enum NumberError {
     NotDecimal,
     // Over 64 bits.
     TooLarge,
 }
 
-// What a word of hex says.
-#[derive(Clone, Copy)]
-pub enum Hex {
-    // How many bytes.
-    Bytes(usize),
+// Why a word says no bytes.
+#[derive(Clone, Copy, Debug, PartialEq, Eq)]
+pub enum HexError {
     NotHex,
     // An odd number of digits.
     Odd,
@@ -26,134 +23,89 @@ pub enum Hex {
     TooLong,
 }
 
-// The place of the first byte b from a position on, or the length.
-pub fn find(s: &[u8], at: usize, b: u8) -> usize
-    requires { at ≤ length s.now }
-    ensures { (at ≤ result) × (result ≤ length s.now) }
+// The value of a digit of this base, "0" to "9" and "a" to "f".
+#[tactic(auto, unfolding(crate::specs::Words::digit, crate::specs::Words::value_of))]
+pub fn digit(c: u8, base: u8) -> Option<u8>
+    requires { base ≤ 16 }
+    ensures { result ≡ digit base c }
 {
-    let mut i = at;
-    while i < s.len() {
-        if s[i] == b {
-            return i;
-        }
-        i += 1;
-    }
-    i
-}
-
-// The value of a digit, "0" to "9" and "a" to "f"; 16 for any other byte.
-pub fn value_of(c: u8) -> u8
-    ensures { result ≡ value_of c }
-{
-    match c {
+    let value = match c {
         b'0'..=b'9' => c - b'0',
         b'a'..=b'f' => c - b'a' + 10,
-        _ => 16,
+        _ => return None,
+    };
+    (value < base).then_some(value)
+}
+
+// A number and one more decimal digit, where 64 bits hold it.
+#[tactic(auto, unfolding(crate::specs::Words::if_fits))]
+fn appended(number: u64, digit: u8) -> Option<u64>
+    ensures { result ≡ if_fits (number * 10 + digit) }
+{
+    number.checked_mul(10)?.checked_add(u64::from(digit))
+}
+
+// The number that a word of decimal digits says. Zeros may lead. A word that is not decimal is told as such, however long it is.
+#[tactic(auto, unfolding(crate::specs::Words::number_of, crate::specs::Words::some_digits, crate::specs::Words::are_digits, crate::specs::Words::digit, crate::specs::Words::if_fits, crate::specs::Words::decimal_value))]
+pub fn decimal(word: &[u8]) -> Result<u64, NumberError>
+    ensures { result ≡ number_of word.now }
+{
+    if word.is_empty() {
+        return Err(NumberError::NotDecimal);
     }
+    let mut number = Some(0);
+    for c in word {
+        let digit = digit(*c, 10).ok_or(NumberError::NotDecimal)?;
+        number = number.and_then(|n| appended(n, digit));
+    }
+    number.ok_or(NumberError::TooLarge)
 }
 
 // Whether each byte is a digit of this base, at most 16.
+#[tactic(auto, unfolding(crate::specs::Words::are_digits, crate::specs::Words::digit))]
 fn are_digits(word: &[u8], base: u8) -> bool
+    requires { base ≤ 16 }
     ensures { result ≡ are_digits base word.now }
 {
-    let mut i = 0;
-    while i < word.len() {
-        if base <= value_of(word[i]) {
-            return false;
-        }
-        i += 1;
-    }
-    true
+    word.iter().all(|c| digit(*c, base).is_some())
 }
 
-// Whether the word has one or more digits of this base and nothing else.
-fn some_digits(word: &[u8], base: u8) -> bool
-    ensures { result ≡ some_digits base word.now }
-{
-    if 0 < word.len() {
-        return are_digits(word, base);
-    }
-    false
-}
-
-// The number of these decimal digits.
-fn digits_number(word: &[u8]) -> Number
-    ensures { result ≡ if_fits (decimal_from 0 word.now) }
-{
-    let mut v: u64 = 0;
-    let mut i = 0;
-    while i < word.len() {
-        let d = value_of(word[i]) as u64;
-        if (u64::MAX - d) / 10 < v {
-            return Number::TooLarge;
-        }
-        v = v * 10 + d;
-        i += 1;
-    }
-    Number::Is(v)
-}
-
-// The number that a word of decimal digits says. Zeros may lead.
-pub fn decimal(word: &[u8]) -> Number
-    ensures { result ≡ number_of word.now }
-{
-    if some_digits(word, 10) {
-        digits_number(word)
-    } else {
-        Number::NotDecimal
-    }
-}
-
-// The bytes that pairs of hex digits say, at the start of the room.
+// The bytes that pairs of hex digits say, put at the start of the room.
+#[tactic(auto, unfolding(crate::specs::Words::pair_bytes, crate::specs::Words::are_digits, crate::specs::Words::digit))]
 fn put_pairs(room: &mut [u8], word: &[u8]) -> usize
-    requires { (are_digits 16 word.now ≡ true) × (length (pair_bytes word.now) ≤ length room.old) }
-    ensures { Wrote room.old 0 (pair_bytes word.now) room.new result }
+    requires digits { are_digits 16 word.now ≡ true }
+    requires held { length word.now / 2 ≤ length room.old }
+    ensures count { result ≡ length word.now / 2 }
+    ensures bytes { room.new ≡ sets room.old 0 (pair_bytes word.now) }
 {
-    let n = word.len() / 2;
-    let mut i = 0;
-    while i < n {
-        room[i] = value_of(word[2 * i]) * 16 + value_of(word[2 * i + 1]);
-        i += 1;
+    let mut rest = word;
+    let mut n = 0;
+    while let [first, second, others @ ..] = rest {
+        room[n] = digit(*first, 16).unwrap() * 16 + digit(*second, 16).unwrap();
+        n += 1;
+        rest = others;
     }
-    i
-}
-
-// Whether the word is "-".
-fn is_dash(word: &[u8]) -> bool
-    ensures { result ≡ is_dash word.now }
-{
-    if word.len() == 1 {
-        return word[0] == b'-';
-    }
-    false
-}
-
-// The bytes of these hex digits, put at the start of the room.
-fn put_digits(room: &mut [u8], word: &[u8]) -> Hex
-    requires { are_digits 16 word.now ≡ true }
-    ensures value { result ≡ if_held (length word.now) (length room.old) }
-    ensures room_after { room.new ≡ room_after result word.now room.old }
-{
-    if word.len() % 2 == 1 {
-        return Hex::Odd;
-    }
-    if room.len() < word.len() / 2 {
-        return Hex::TooLong;
-    }
-    Hex::Bytes(put_pairs(room, word))
+    n
 }
 
 // The bytes that a word of hex says, put at the start of the room; "-" says none.
-pub fn hex_bytes(room: &mut [u8], word: &[u8]) -> Hex
+#[tactic(auto, unfolding(crate::specs::Words::hex_of, crate::specs::Words::if_held, crate::specs::Words::is_dash, crate::specs::Words::some_digits, crate::specs::Words::pair_bytes))]
+pub fn hex_bytes(room: &mut [u8], word: &[u8]) -> Result<usize, HexError>
     ensures value { result ≡ hex_of word.now (length room.old) }
     ensures room_after { room.new ≡ room_after result word.now room.old }
+    ensures held { IfOk result (λ n. n ≤ length room.new) }
 {
-    if is_dash(word) {
-        return Hex::Bytes(0);
+    if matches!(word, b"-") {
+        return Ok(0);
     }
-    if some_digits(word, 16) {
-        put_digits(room, word)
-    } else {
-        Hex::NotHex
+    if word.is_empty() || !are_digits(word, 16) {
+        return Err(HexError::NotHex);
     }
+    if word.len() % 2 == 1 {
+        return Err(HexError::Odd);
+    }
+    if room.len() < word.len() / 2 {
+        return Err(HexError::TooLong);
+    }
+    Ok(put_pairs(room, word))
 }

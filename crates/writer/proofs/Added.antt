@@ -1,78 +1,97 @@
 -- The laws of pieces that are added one after the other.
-use Prim.Native.Nat.{ℕ, ◌+◌, ◌≤◌}
+use Prim.Native.Nat.{ℕ, ◌+◌, ◌-◌, ◌≤◌, ◌<◌}
 use native.Mathlib.Omega.{arith}
-use mathlib.Core.Path.{◌≡◌, refl, sym, ap, ◌∙◌}
-use mathlib.Core.List.{[], ◌++◌}
-use lib.ListN.{length, length-append}
-use lib.Seq.{sets, length-sets}
+use mathlib.Core.Path.{◌≡◌, refl, sym, ap, ap₂, ◌∙◌}
+use mathlib.Core.Bool.{Bool, true, false, ◌&&◌}
+use mathlib.Core.List.{[], ◌++◌, append_assoc, append-nil}
+use lib.ListN.{length, take, drop, length-append}
+use lib.Seq.{sets-eq, take_at, length-take-le}
+use lib.Dec.{leb}
+use borrow.Author.Tests.{leb-true, leb-false, le-leb, lt-leb}
+use Rattle.std.specs.Prelude.{Result}
+use Rattle.std.specs.Result.{IsErrAnd}
 use Rattle.rules.specs.Bytes.{Bytes}
+use Rattle.rules.specs.Result.{Res, refused, ok, need, ◌>>=◌, ◌>>◌, LIMIT}
 use Rattle.rules.specs.Model.{limits}
+use Rattle.rules.proofs.Steps.{need_yes, need_no, bind_ok, bind_refused}
+use Rattle.rules.proofs.Tools.{and_both, by_test, never}
 use Rattle.put.specs.Wrote.{Wrote}
-use Rattle.put.proofs.Wrote.{wrote_then}
-use Rattle.writer.specs.Added.{Fits, Added}
+use Rattle.refusals.specs.declared.Refusal.{Refusal}
+use Rattle.refusals.specs.Answers.{refusal_is, answer_is}
+use Rattle.refusals.proofs.Steps.{stopped}
+use Rattle.writer.specs.Added.{added}
 
--- nothing
-pub added_none : {room : Bytes} {at : ℕ} → Added room at (Unit {0}) [] room at
-added_none = record { place = λ g h. omega arith; bytes = λ g h. refl; good = λ h. tt; fits = λ h. omega arith }
+-- ---- one piece
 
--- what was written
-pub added_wrote : {a b w : Bytes} {Good : Type 0} {i k : ℕ} → Good → Fits i w → Wrote a i w b k → Added a i Good w b k
-added_wrote g h p = record { place = λ _ _. p.place; bytes = λ _ _. p.bytes; good = λ _. g; fits = λ _. h }
+-- it fits
+pub added_fits : (lie : Bool) (w bs : Bytes) → lie ≡ true → length w ≤ limits.bytes - length bs → ok (bs ++ w) ≡ added lie w bs
+unfolding added
+added_fits lie w bs e h = need_yes _ _ _ _ (and_both lie _ e (le-leb (length w) (limits.bytes - length bs) h))
 
--- what may not be added
-pub added_over : {room : Bytes} {Good : Type 0} {at : ℕ} (w : Bytes) → (Good → Fits at w → ⊥) → Added room at Good w room (limits.bytes + 1)
-added_over w never =
-    record { place = λ g h. absurd (never g h); bytes = λ g h. absurd (never g h); good = λ h. absurd (omega arith); fits = λ h. absurd (omega arith) }
+-- a text of it lies outside
+pub added_outside : (lie : Bool) (w bs : Bytes) → lie ≡ false → refused LIMIT 0 ≡ added lie w bs
+unfolding added
+added_outside true w bs e = never (sym e)
+added_outside false w bs e = need_no _ _ _ _ refl
 
--- the same, said in another way
-pub added_as : {a b v w : Bytes} {G H : Type 0} {i k : ℕ} → (G → H) → (H → G) → (G → v ≡ w) → Added a i G v b k → Added a i H w b k
-added_as {a} {b} {v} {w} {G} {H} {i} {k} there back e p =
-    let same : H → length v ≡ length w = λ h. ap length (e (back h)) in
-    record {
-      place = λ h f. p.place (back h) (omega (arith, same h)) ∙ ap (λ (n : ℕ). i + n) (same h);
-      bytes = λ h f. p.bytes (back h) (omega (arith, same h)) ∙ ap (sets a i) (e (back h));
-      good = λ f. there (p.good f);
-      fits = λ f. omega (arith, p.fits f, ap length (e (p.good f)));
-    }
+-- it is too long
+pub added_over : (lie : Bool) (w bs : Bytes) → limits.bytes - length bs < length w → refused LIMIT 0 ≡ added lie w bs
+unfolding added
+added_over true w bs h = need_no _ _ _ _ (lt-leb (length w) (limits.bytes - length bs) h)
+added_over false w bs h = need_no _ _ _ _ refl
 
--- the same bytes, said in another way
-pub added_bytes : {a b v w : Bytes} {G : Type 0} {i k : ℕ} → v ≡ w → Added a i G v b k → Added a i G w b k
-added_bytes e = added_as (λ g. g) (λ g. g) (λ _. e)
+-- it is nothing
+pub added_none : (bs : Bytes) → ok bs ≡ added true [] bs
+added_none bs = ap ok (sym (append-nil bs)) ∙ added_fits true [] bs refl (omega arith)
 
--- the room is as long as before
-pub added_size : {a b w : Bytes} {Good : Type 0} {i k : ℕ} → Added a i Good w b k → k ≤ limits.bytes → length b ≡ length a
-added_size {a} {b} {w} {Good} {i} {k} p h = ap length (p.bytes (p.good h) (p.fits h)) ∙ length-sets a i w
+-- it is said in another way
+pub added_as : (lie : Bool) {v w : Bytes} (bs : Bytes) → (lie ≡ true → v ≡ w) → added lie v bs ≡ added lie w bs
+added_as true bs e = ap (λ v. added true v bs) (e refl)
+added_as false bs e = sym (added_outside false _ bs refl) ∙ added_outside false _ bs refl
 
--- two pieces
-pub added_then : {a b c v w : Bytes} {G H : Type 0} {i j k : ℕ} → Added a i G v b j → Added b j H w c k → Added a i (G × H) (v ++ w) c k
-added_then {a} {b} {c} {v} {w} {G} {H} {i} {j} {k} p q =
-    let n = length-append v w in
-    let first : G → Fits i v → Wrote a i v b j = λ g h. record { bytes = p.bytes g h; place = p.place g h } in
-    let second : H → Fits j w → Wrote b j w c k = λ g h. record { bytes = q.bytes g h; place = q.place g h } in
-    let both : G × H → Fits i (v ++ w) → Wrote a i (v ++ w) c k = λ g h.
-    let one : Wrote a i v b j = first g.0 (omega arith) in
-    wrote_then one (second g.1 (omega (arith, one.place))) in
-    let within : k ≤ limits.bytes → j ≤ limits.bytes = λ h. omega (arith, q.fits h) in
-    record {
-      place = λ g h. (both g h).place;
-      bytes = λ g h. (both g h).bytes;
-      good = λ h. (p.good (within h), q.good h);
-      fits = λ h. omega (arith, n, q.fits h, p.place (p.good (within h)) (p.fits (within h)));
-    }
+-- ---- two pieces
 
--- ---- a loop that adds: w is left to be added at o, where all of it was w₀, from `at` on, in room₀
+-- the second
+second : (h : Bool) (v w bs : Bytes) → length v ≤ limits.bytes - length bs → added h w (bs ++ v) ≡ added h (v ++ w) bs
+unfolding added
+second h v w bs f =
+    let fits : leb (length w) (limits.bytes - length (bs ++ v)) ≡ leb (length (v ++ w)) (limits.bytes - length bs) =
+    by_test (λ t. t ≡ leb (length (v ++ w)) (limits.bytes - length bs)) (leb (length w) (limits.bytes - length (bs ++ v)))
+    (λ e. sym (le-leb _ _ (omega (arith, f, leb-true (length w) (limits.bytes - length (bs ++ v)) e, length-append v w, length-append bs v))))
+    (λ e. sym (lt-leb _ _ (omega (arith, f, leb-false (length w) (limits.bytes - length (bs ++ v)) e, length-append v w, length-append bs v)))) in
+    ap₂ (λ (t : Bool) (r : Bytes). need (h && t) LIMIT 0 >> ok r) fits (append_assoc bs v w)
 
-pub record Rest (room : Bytes) (o : ℕ) (Good : Type 0) (w room₀ : Bytes) (at : ℕ) (Good₀ : Type 0) (w₀ : Bytes) : Type 0 where
-  pub all : {after : Bytes} {to : ℕ} → Added room o Good w after to → Added room₀ at Good₀ w₀ after to
+pub added_then : (g h : Bool) (v w bs : Bytes) → (added g v bs >>= added h w) ≡ added (g && h) (v ++ w) bs
+added_then false h v w bs = sym (bind_refused _ (added h w) LIMIT 0 (added_outside false v bs refl)) ∙ added_outside false (v ++ w) bs refl
+added_then true h v w bs =
+    by_test (λ t. leb (length v) (limits.bytes - length bs) ≡ t → (added true v bs >>= added h w) ≡ added h (v ++ w) bs) (leb (length v) (limits.bytes - length bs))
+    (λ _ e.
+    let f = leb-true (length v) (limits.bytes - length bs) e in
+    sym (bind_ok _ (added h w) (bs ++ v) (added_fits true v bs refl f)) ∙ second h v w bs f)
+    (λ _ e.
+    let f = leb-false (length v) (limits.bytes - length bs) e in
+    sym (bind_refused _ (added h w) LIMIT 0 (added_over true v bs f)) ∙ added_over h (v ++ w) bs (omega (arith, f, length-append v w))) refl
 
-pub rest_whole : {room w : Bytes} {Good : Type 0} {at : ℕ} → Rest room at Good w room at Good w
-rest_whole = record { all = λ p. p }
+-- the first is added, and then the second
+pub went : {X : Res Bytes} (g h : Bool) (v w bs bs' : Bytes) → ok bs' ≡ added g v bs → X ≡ added h w bs' → X ≡ added (g && h) (v ++ w) bs
+went g h v w bs bs' e d = d ∙ bind_ok _ (added h w) bs' e ∙ added_then g h v w bs
 
--- the next piece is v, and what is left after it is w
-pub rest_next : {room room' v w w₀ room₀ : Bytes} {G H Good₀ : Type 0} {o o' at : ℕ} → Rest room o (G × H) (v ++ w) room₀ at Good₀ w₀ → Added room o G v room' o'
-    → Rest room' o' H w room₀ at Good₀ w₀
-rest_next r p = record { all = λ q. r.all (added_then p q) }
+-- the first is refused
+pub halted : {A : Type 0} (f : A → Bytes) (x : Refusal) (g h : Bool) (v w bs : Bytes) (r : Result A Refusal) → IsErrAnd r (λ e. e ≡ x) → refusal_is x ≡ added g v bs
+    → answer_is f r ≡ added (g && h) (v ++ w) bs
+halted f x g h v w bs r i e = stopped f x (added h w) r i e ∙ added_then g h v w bs
 
--- what is left, said in another way
-pub rest_as : {room v w room₀ w₀ : Bytes} {G H Good₀ : Type 0} {o at : ℕ} → (G → H) → (H → G) → v ≡ w → Rest room o G v room₀ at Good₀ w₀ → Rest room o H w room₀ at Good₀ w₀
-rest_as there back e r = record { all = λ q. r.all (added_as back there (λ _. sym e) q) }
+-- ---- an array that holds an encoding and has room behind it
+
+module _ (bytes : Bytes) (end : ℕ) (bs : Bytes) (is : take end bytes ≡ bs) (within : end ≤ limits.bytes) (size : length bytes ≡ limits.bytes) where
+  pub made_length : length bs ≡ end
+  made_length = ap length (sym is) ∙ length-take-le end bytes (omega (arith, within, size))
+
+  -- w is written behind it
+  pub made_more : (lie : Bool) (w after : Bytes) (to : ℕ) → lie ≡ true → length w ≤ limits.bytes - end → Wrote bytes end w after to → ok (take to after) ≡ added lie w bs
+  made_more lie w after to e h p =
+      let more : take to after ≡ bs ++ w =
+      ap (take to) (p.bytes ∙ sets-eq w bytes end (omega (arith, within, size, h)))
+      ∙ take_at (take end bytes ++ w) (drop (end + length w) bytes) to (omega (arith, p.place, length-append (take end bytes) w, length-take-le end bytes (omega (arith, within, size))))
+      ∙ ap (λ (r : Bytes). r ++ w) is in
+      ap ok more ∙ added_fits lie w bs e (omega (arith, h, made_length))

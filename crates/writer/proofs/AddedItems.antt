@@ -1,26 +1,30 @@
--- The items of an encoding as they are added, and when RULES 9.2 lets them be.
+-- The items of an encoding as they are added, and the texts in them.
 use Prim.Native.Nat.{ℕ, zero, suc, ◌+◌, ◌≤◌, ◌<◌}
 use native.Mathlib.Omega.{arith}
-use mathlib.Core.Path.{◌≡◌, refl, sym, ap, ◌∙◌}
-use mathlib.Core.Bool.{true, ◌&&◌}
+use mathlib.Core.Path.{◌≡◌, refl, sym, ap, ap₂, ◌∙◌}
+use mathlib.Core.Bool.{Bool, true, false, ◌&&◌}
 use mathlib.Core.List.{List, [], ◌∷◌, ◌++◌, append_assoc, append-nil, map}
 use mathlib.Core.Option
 use mathlib.Core.Option.{Option, none, some}
 use lib.ListN.{length, drop, length-append, length-map}
 use lib.Dec.{leb, lit≤}
-use borrow.Author.Tests.{leb-true, le-leb}
+use borrow.Author.Tests.{leb-true, le-leb, lt-leb}
 use Rattle.rules.specs.Bytes.{Bytes, all, concat}
-use Rattle.rules.specs.Head.{Kind, Number, ByteString, Array, head_bytes}
-use Rattle.rules.specs.Model.{Scheme, Authority, Host, address, labels, Opening, discard, discard_all, full, Span, Components, elements, limits, most_labels, most_parameters}
+use Rattle.rules.specs.Result.{ok}
+use Rattle.rules.specs.Head.{Kind, Number, Array, head_bytes}
+use Rattle.rules.specs.Model.{Authority, Host, map_host, Opening, discard, discard_all, full, Span, Components, elements, limits, most_labels, most_parameters}
 use Rattle.rules.specs.Reader.{taken}
 use Rattle.rules.specs.Encode.{text_item, array_item, texts_item, null_item, or_null, tail_items, port_items, host_items, authority_item, discard_alone, with_opening}
-use Rattle.rules.specs.Writing.{host_texts, scheme_texts, where_set, opening_texts, all_texts, counted, inside, Lie}
-use Rattle.rules.proofs.Tools.{and_left, and_right, and_both, length_part, concat_append}
-use Rattle.rules.proofs.Standing.{none_lie, both_lie}
-use Rattle.components.specs.declared.Components as Code
-use Rattle.components.specs.Content.{spans_of, label_count, text_count, path_place, query_place, components_of}
+use Rattle.rules.specs.Writing.{where_set, opening_texts, all_texts, counted, inside}
+use Rattle.rules.proofs.Tools.{and_left, and_right, length_part, concat_append}
+use Rattle.components.specs.declared.Components as Given
+use Rattle.components.specs.declared.Host as GivenHost
+use Rattle.components.specs.declared.Host.TheVariants as HostV
+use Rattle.components.specs.Content.{spans_of, host_of, labels_in, label_count, text_count, path_place, query_place, components_of}
 use Rattle.components.proofs.Content.{length_spans_of, labels_counted, texts_counted}
-use Rattle.writer.specs.AddedItems.{FurtherMay, TailMay, string_item, text_items, authority_items, discard_items, opening_items, fragment_items}
+use Rattle.writer.specs.Added.{added}
+use Rattle.writer.proofs.Added.{added_none, added_as}
+use Rattle.writer.specs.AddedItems.{one_text, tail_texts, string_item, text_items, authority_items, discard_items, opening_items, fragment_items}
 
 -- an item by itself
 pub one_item : (x : Bytes) → x ≡ concat (x ∷ [])
@@ -33,6 +37,10 @@ pub lies : (lent : Bytes) (s : Span) → s.start + s.length ≤ length lent → 
 unfolding inside
 lies lent s h = le-leb (s.start + s.length) (length lent) h
 
+pub lies_not : (lent : Bytes) (s : Span) → length lent < s.start + s.length → inside lent s ≡ false
+unfolding inside
+lies_not lent s h = lt-leb (s.start + s.length) (length lent) h
+
 pub lying : (lent : Bytes) (s : Span) → inside lent s ≡ true → s.start + s.length ≤ length lent
 unfolding inside
 lying lent s e = leb-true (s.start + s.length) (length lent) e
@@ -40,41 +48,46 @@ lying lent s e = leb-true (s.start + s.length) (length lent) e
 pub length_taken : (lent : Bytes) (s : Span) → inside lent s ≡ true → length (taken lent s) ≡ s.length
 length_taken lent s e = length_part lent s.start s.length (lying lent s e)
 
--- one span
-pub one_lies : (lent : Bytes) (s : Span) → inside lent s ≡ true → Lie lent (s ∷ [])
-unfolding all
-one_lies lent s e = and_both (inside lent s) true e refl
+and_true : (a : Bool) → (a && true) ≡ a
+and_true true = refl
+and_true false = refl
 
-pub one_lying : (lent : Bytes) (s : Span) → Lie lent (s ∷ []) → inside lent s ≡ true
-unfolding all
-one_lying lent s e = and_left (inside lent s) true e
+and_assoc : (a b c : Bool) → ((a && b) && c) ≡ (a && (b && c))
+and_assoc true b c = refl
+and_assoc false b c = refl
 
--- those of two lists
-pub first_lie : (lent : Bytes) (ss ts : List Span) → Lie lent (ss ++ ts) → Lie lent ss
+-- texts lie inside exactly where those of two parts do
+pub all_append : {A : Type 0} (p : A → Bool) (xs ys : List A) → (all p xs && all p ys) ≡ all p (xs ++ ys)
 unfolding all
-first_lie lent [] ts a = refl
-first_lie lent (s ∷ ss) ts a =
-    and_both (inside lent s) (all (inside lent) ss) (and_left (inside lent s) (all (inside lent) (ss ++ ts)) a) (first_lie lent ss ts (and_right (inside lent s) (all (inside lent) (ss ++ ts)) a))
+all_append p [] ys = refl
+all_append p (x ∷ xs) ys = and_assoc (p x) (all p xs) (all p ys) ∙ ap (λ t. p x && t) (all_append p xs ys)
 
-pub second_lie : (lent : Bytes) (ss ts : List Span) → Lie lent (ss ++ ts) → Lie lent ts
+pub both_made : (lent : Bytes) (ss ts : List Span) (w bs : Bytes) → added (all (inside lent) ss && all (inside lent) ts) w bs ≡ added (all (inside lent) (ss ++ ts)) w bs
+both_made lent ss ts w bs = ap (λ t. added t w bs) (all_append (inside lent) ss ts)
+
+-- one text
+one_inside : (lent : Bytes) (s : Span) → inside lent s ≡ all (inside lent) (one_text s)
 unfolding all
-second_lie lent [] ts a = a
-second_lie lent (s ∷ ss) ts a = second_lie lent ss ts (and_right (inside lent s) (all (inside lent) (ss ++ ts)) a)
+one_inside lent s = sym (and_true (inside lent s))
 
 -- ---- texts
 
 -- a text or a byte string, with its length as its span has it
-pub string_said : (k : Kind) (lent : Bytes) (s : Span) → inside lent s ≡ true → head_bytes k s.length ++ taken lent s ≡ string_item k (taken lent s)
+pub string_made : (k : Kind) (lent : Bytes) (s : Span) (bs : Bytes)
+    → added (inside lent s) (head_bytes k s.length ++ taken lent s) bs ≡ added (all (inside lent) (one_text s)) (string_item k (taken lent s)) bs
 unfolding string_item
-string_said k lent s e = ap (λ (n : ℕ). head_bytes k n ++ taken lent s) (sym (length_taken lent s e))
+string_made k lent s bs =
+    added_as (inside lent s) bs (λ e. ap (λ (n : ℕ). head_bytes k n ++ taken lent s) (sym (length_taken lent s e)))
+    ∙ ap (λ t. added t (string_item k (taken lent s)) bs) (one_inside lent s)
 
 -- an array of n texts
-pub texts_said : (lent : Bytes) (n : ℕ) (xs : List ℕ) → head_bytes Array n ++ text_items lent (spans_of n xs) ≡ texts_item (map (taken lent) (spans_of n xs))
+pub texts_made : (t : Bool) (lent : Bytes) (n : ℕ) (xs : List ℕ) (bs : Bytes)
+    → added t (head_bytes Array n ++ text_items lent (spans_of n xs)) bs ≡ added t (texts_item (map (taken lent) (spans_of n xs))) bs
 unfolding text_items texts_item array_item
-texts_said lent n xs =
+texts_made t lent n xs bs =
     let ts : List Span = spans_of n xs in
     let us : List Bytes = map (taken lent) ts in
-    ap (λ (m : ℕ). head_bytes Array m ++ concat (map text_item us)) (sym (length-map us text_item ∙ length-map ts (taken lent) ∙ length_spans_of n xs))
+    ap (λ (m : ℕ). added t (head_bytes Array m ++ concat (map text_item us)) bs) (sym (length-map us text_item ∙ length-map ts (taken lent) ∙ length_spans_of n xs))
 
 -- ---- authority
 
@@ -84,28 +97,28 @@ unfolding port_items
 port_most none e = omega arith
 port_most (some n) e = omega arith
 
--- a host of these items, then the port
-authority_said : (h : Host Bytes) (p : Option ℕ) (n : ℕ) (w : Bytes) → n ≡ length (host_items h) + length (port_items p) → w ≡ concat (host_items h)
-    → (head_bytes Array n ++ w) ++ concat (port_items p) ≡ authority_item (record { host = h; port = p })
-unfolding authority_item array_item
-authority_said h p n w e d =
-    append_assoc (head_bytes Array n) w (concat (port_items p))
-    ∙ ap (λ (v : Bytes). head_bytes Array n ++ (v ++ concat (port_items p))) d
-    ∙ ap (λ (m : ℕ). head_bytes Array m ++ (concat (host_items h) ++ concat (port_items p))) (e ∙ sym (length-append (host_items h) (port_items p)))
-    ∙ ap (λ (v : Bytes). head_bytes Array (length (host_items h ++ port_items p)) ++ v) (sym (concat_append (host_items h) (port_items p)))
-
-pub address_said : (a : Bytes) (p : Option ℕ) (n : ℕ) → n ≡ length (port_items p) → (head_bytes Array (1 + n) ++ string_item ByteString a) ++ concat (port_items p) ≡ authority_item (record { host = address a; port = p })
-unfolding host_items string_item
-address_said a p n e = authority_said (address a) p (1 + n) _ (ap (λ (m : ℕ). 1 + m) e) (one_item _)
-
-pub labels_said : (lent : Bytes) (n : ℕ) (xs : List ℕ) (p : Option ℕ) (m : ℕ) → m ≡ length (port_items p)
-    → (head_bytes Array (n + m) ++ text_items lent (spans_of n xs)) ++ concat (port_items p) ≡ authority_item (record { host = labels (map (taken lent) (spans_of n xs)); port = p })
-unfolding host_items text_items
-labels_said lent n xs p m e =
+-- n labels are n items
+pub labels_many : (lent : Bytes) (n : ℕ) (xs : List ℕ) → n ≡ length (host_items (map_host (taken lent) (host_of xs (HostV.Labels n))))
+unfolding host_items
+labels_many lent n xs =
     let ts : List Span = spans_of n xs in
     let us : List Bytes = map (taken lent) ts in
-    let count : n ≡ length (map text_item us) = sym (length-map us text_item ∙ length-map ts (taken lent) ∙ length_spans_of n xs) in
-    authority_said (labels us) p (n + m) _ (ap (λ (k : ℕ). n + k) e ∙ ap (λ (k : ℕ). k + length (port_items p)) count) refl
+    sym (length-map us text_item ∙ length-map ts (taken lent) ∙ length_spans_of n xs)
+
+-- how many items a host has at most
+pub host_most : (h : GivenHost.Host) (lent : Bytes) (xs : List ℕ) → length (host_items (map_host (taken lent) (host_of xs h))) ≤ labels_in h + 1
+unfolding host_items
+host_most (HostV.Address a) lent xs = lit≤ tt
+host_most (HostV.Labels n) lent xs = omega (arith, labels_many lent n xs)
+
+-- the array of a host and a port
+pub authority_made : (t : Bool) (h : Host Bytes) (p : Option ℕ) (n m : ℕ) (bs : Bytes) → n ≡ length (host_items h) → m ≡ length (port_items p)
+    → added (t && true) (head_bytes Array (n + m) ++ (concat (host_items h) ++ concat (port_items p))) bs ≡ added t (authority_item (record { host = h; port = p })) bs
+unfolding authority_item array_item
+authority_made t h p n m bs e d =
+    ap₂ (λ (t : Bool) (w : Bytes). added t w bs) (and_true t)
+    (ap (λ (k : ℕ). head_bytes Array k ++ (concat (host_items h) ++ concat (port_items p))) (omega (arith, e, d, length-append (host_items h) (port_items p)))
+    ∙ ap (λ (v : Bytes). head_bytes Array (length (host_items h ++ port_items p)) ++ v) (sym (concat_append (host_items h) (port_items p))))
 
 -- ---- opening
 
@@ -182,98 +195,105 @@ with_opening_lem (full s none) [] = refl
 with_opening_lem (full s none) (x ∷ xs) = refl
 with_opening_lem (full s (some a)) xs = refl
 
--- a scheme and an authority lie inside exactly where the opening does
-module _ (lent : Bytes) (s : Option (Scheme Span)) (a : Option (Authority Span)) where
-  abbrev scheme_spans : List Span
-  scheme_spans = where_set scheme_texts s
-
-  abbrev host_spans : List Span
-  host_spans = where_set (λ a. host_texts a.host) a
-
-  pub opening_lies : Lie lent scheme_spans × Lie lent host_spans → Lie lent (opening_texts (full s a))
-  opening_lies g = both_lie lent scheme_spans host_spans g.0 g.1
-
-  pub opening_each : Lie lent (opening_texts (full s a)) → Lie lent scheme_spans × Lie lent host_spans
-  opening_each g = (first_lie lent scheme_spans host_spans g, second_lie lent scheme_spans host_spans g)
-
 -- ---- path, query, fragment
+
+-- the items after the path
+abbrev after_path : Bytes → Option (List Span) → Option Span → List Bytes
+after_path lent q (some f) = or_null texts_item (Option.map (map (taken lent)) q) ∷ text_item (taken lent f) ∷ []
+after_path lent (some q) none = texts_item (map (taken lent) q) ∷ []
+after_path lent none none = []
 
 -- path, query and fragment of components, with their bytes
 abbrev tail : Bytes → Option (List Span) → Option (List Span) → Option Span → List Bytes
 tail lent p q f = tail_items (Option.map (map (taken lent)) p) (Option.map (map (taken lent)) q) (Option.map (taken lent) f)
 
 module _ (lent : Bytes) where
-  -- none of them is set
-  pub tail_none : (p q : Option (List Span)) (f : Option Span) → length (tail lent p q f) ≡ 0 → ([] ≡ concat (tail lent p q f)) × FurtherMay lent p q f
-  unfolding tail_items concat
-  tail_none p q (some f) e = absurd (omega arith)
-  tail_none p (some q) none e = absurd (omega arith)
-  tail_none (some p) none none e = absurd (omega arith)
-  tail_none none none none e = (refl, (none_lie lent, none_lie lent, none_lie lent))
+  abbrev lie : List Span → Bool
+  lie = all (inside lent)
 
-  -- the path alone
-  pub tail_one : (p q : Option (List Span)) (f : Option Span) → length (tail lent p q f) ≡ 1
-      → (or_null texts_item (Option.map (map (taken lent)) p) ≡ concat (tail lent p q f)) × (Lie lent (elements p) → FurtherMay lent p q f)
-  unfolding tail_items or_null
-  tail_one p q (some f) e = absurd (omega arith)
-  tail_one p (some q) none e = absurd (omega arith)
-  tail_one (some p) none none e = (one_item _, λ g. (g, none_lie lent, none_lie lent))
-  tail_one none none none e = absurd (omega arith)
+  tail_inside : (ps qs fs : List Span) → (lie ps && (lie qs && lie fs)) ≡ lie (ps ++ qs ++ fs)
+  tail_inside ps qs fs = sym (and_assoc (lie ps) (lie qs) (lie fs)) ∙ ap (λ t. t && lie fs) (all_append (inside lent) ps qs) ∙ all_append (inside lent) (ps ++ qs) fs
 
-  -- the path, the query, and the fragment where it is set
-  pub tail_more : (p q : Option (List Span)) (f : Option Span) → (length (tail lent p q f) ≡ 0 → ⊥) → (length (tail lent p q f) ≡ 1 → ⊥)
-      → (or_null texts_item (Option.map (map (taken lent)) p) ++ or_null texts_item (Option.map (map (taken lent)) q)) ++ concat (fragment_items (Option.map (taken lent) f)) ≡ concat (tail lent p q f)
+  tail_split : (p q : Option (List Span)) (f : Option Span) → (length (tail lent p q f) ≡ 0 → ⊥)
+      → or_null texts_item (Option.map (map (taken lent)) p) ++ concat (after_path lent q f) ≡ concat (tail lent p q f)
+  unfolding tail_items or_null concat
+  tail_split p q (some f) n = refl
+  tail_split p (some q) none n = refl
+  tail_split (some p) none none n = refl
+  tail_split none none none n = absurd (n refl)
+
+  after_split : (p q : Option (List Span)) (f : Option Span) → (length (tail lent p q f) ≡ 0 → ⊥) → (length (tail lent p q f) ≡ 1 → ⊥)
+      → or_null texts_item (Option.map (map (taken lent)) q) ++ concat (fragment_items (Option.map (taken lent) f)) ≡ concat (after_path lent q f)
   unfolding tail_items or_null fragment_items concat
-  tail_more p q (some f) n e = append_assoc (or_null texts_item (Option.map (map (taken lent)) p)) (or_null texts_item (Option.map (map (taken lent)) q)) (concat (text_item (taken lent f) ∷ []))
-  tail_more p (some q) none n e = append_assoc (or_null texts_item (Option.map (map (taken lent)) p)) (texts_item (map (taken lent) q)) []
-  tail_more (some p) none none n e = absurd (e refl)
-  tail_more none none none n e = absurd (n refl)
+  after_split p q (some f) n e = refl
+  after_split p (some q) none n e = refl
+  after_split (some p) none none n e = absurd (e refl)
+  after_split none none none n e = absurd (n refl)
+
+  -- none is set
+  pub tail_none : (p q : Option (List Span)) (f : Option Span) (bs : Bytes) → length (tail lent p q f) ≡ 0
+      → ok bs ≡ added (lie (elements p ++ elements q ++ where_set one_text f)) (concat (tail lent p q f)) bs
+  unfolding all tail_items concat
+  tail_none p q (some f) bs e = absurd (omega arith)
+  tail_none p (some q) none bs e = absurd (omega arith)
+  tail_none (some p) none none bs e = absurd (omega arith)
+  tail_none none none none bs e = added_none bs
+
+  -- the path, and those after it
+  pub tail_made : (p q : Option (List Span)) (f : Option Span) (bs : Bytes) → (length (tail lent p q f) ≡ 0 → ⊥)
+      → added (lie (elements p) && (lie (elements q) && lie (where_set one_text f))) (or_null texts_item (Option.map (map (taken lent)) p) ++ concat (after_path lent q f)) bs
+      ≡ added (lie (elements p ++ elements q ++ where_set one_text f)) (concat (tail lent p q f)) bs
+  tail_made p q f bs n = ap₂ (λ (t : Bool) (w : Bytes). added t w bs) (tail_inside (elements p) (elements q) (where_set one_text f)) (tail_split p q f n)
+
+  -- none is set after the path
+  pub after_none : (p q : Option (List Span)) (f : Option Span) (bs : Bytes) → length (tail lent p q f) ≡ 1
+      → ok bs ≡ added (lie (elements q) && lie (where_set one_text f)) (concat (after_path lent q f)) bs
+  unfolding all tail_items concat
+  after_none p q (some f) bs e = absurd (omega arith)
+  after_none p (some q) none bs e = absurd (omega arith)
+  after_none (some p) none none bs e = added_none bs
+  after_none none none none bs e = absurd (omega arith)
+
+  -- the query, and the fragment where it is set
+  pub after_made : (p q : Option (List Span)) (f : Option Span) (bs : Bytes) → (length (tail lent p q f) ≡ 0 → ⊥) → (length (tail lent p q f) ≡ 1 → ⊥)
+      → added (lie (elements q) && lie (where_set one_text f)) (or_null texts_item (Option.map (map (taken lent)) q) ++ concat (fragment_items (Option.map (taken lent) f))) bs
+      ≡ added (lie (elements q) && lie (where_set one_text f)) (concat (after_path lent q f)) bs
+  after_made p q f bs n e = ap (λ w. added (lie (elements q) && lie (where_set one_text f)) w bs) (after_split p q f n e)
 
 -- ---- the whole
 
-pub encode_said : (o : Opening Bytes) (xs : List Bytes) (n m : ℕ) → m ≡ length xs → n ≡ length (opening_items o m)
-    → (head_bytes Array (n + m) ++ concat (opening_items o m)) ++ concat xs ≡ array_item (with_opening o xs)
+encode_said : (o : Opening Bytes) (xs : List Bytes) (n m : ℕ) → m ≡ length xs → n ≡ length (opening_items o m)
+    → head_bytes Array (n + m) ++ (concat (opening_items o m) ++ concat xs) ≡ array_item (with_opening o xs)
 unfolding array_item
 encode_said o xs n m e d =
     let ys : List Bytes = opening_items o m in
-    append_assoc (head_bytes Array (n + m)) (concat ys) (concat xs)
-    ∙ ap (λ (v : Bytes). head_bytes Array (n + m) ++ v) (sym (concat_append ys xs))
+    ap (λ (v : Bytes). head_bytes Array (n + m) ++ v) (sym (concat_append ys xs))
     ∙ ap (λ (k : ℕ). head_bytes Array k ++ concat (ys ++ xs)) (omega (arith, d, e, length-append ys xs))
     ∙ ap array_item (ap (λ (k : ℕ). opening_items o k ++ xs) e ∙ sym (with_opening_lem o xs))
 
--- the opening and the rest lie inside exactly where all texts do
-module _ (lent : Bytes) (c : Components) where
-  abbrev o : List Span
-  o = opening_texts c.opening
-
-  abbrev p : List Span
-  p = elements c.path
-
-  abbrev q : List Span
-  q = elements c.query
-
-  abbrev f : List Span
-  f = where_set (λ (t : Span). t ∷ []) c.fragment
-
-  pub all_lie : Lie lent o × TailMay lent c → Lie lent (all_texts c)
-  all_lie g = both_lie lent (o ++ p ++ q) f (both_lie lent (o ++ p) q (both_lie lent o p g.0 g.1.0) g.1.1) g.1.2
-
-  pub each_lies : Lie lent (all_texts c) → Lie lent o × TailMay lent c
-  each_lies g =
-      let opq = first_lie lent (o ++ p ++ q) f g in
-      let op = first_lie lent (o ++ p) q opq in
-      (first_lie lent o p op, (second_lie lent o p op, second_lie lent (o ++ p) q opq, second_lie lent (o ++ p ++ q) f g))
+-- the array of an opening and the items after it
+pub reference_made : (lent : Bytes) (c : Components) (o : Opening Bytes) (xs : List Bytes) (n m : ℕ) (bs : Bytes) → m ≡ length xs → n ≡ length (opening_items o m)
+    → added (all (inside lent) (opening_texts c.opening) && all (inside lent) (tail_texts c)) (head_bytes Array (n + m) ++ (concat (opening_items o m) ++ concat xs)) bs
+    ≡ added (all (inside lent) (all_texts c)) (array_item (with_opening o xs)) bs
+reference_made lent c o xs n m bs e d =
+    let os = opening_texts c.opening in
+    let ps = elements c.path in
+    let qs = elements c.query in
+    let fs = where_set one_text c.fragment in
+    ap₂ (λ (t : Bool) (w : Bytes). added t w bs)
+    (all_append (inside lent) os (tail_texts c) ∙ ap (all (inside lent)) (sym (append_assoc os (ps ++ qs) fs) ∙ ap (λ (r : List Span). r ++ fs) (sym (append_assoc os ps qs))))
+    (encode_said o xs n m e d)
 
 -- ---- RULES 9.2: counts
 
 -- what the array says does not count
-pub counted_by : (xs : List ℕ) (c : Code.Components)
+pub counted_by : (xs : List ℕ) (c : Given.Components)
     → counted limits (components_of xs c) ≡ (leb (label_count c.opening) most_labels && (leb (text_count c.path) limits.segments && leb (text_count c.query) most_parameters))
 unfolding counted
 counted_by xs c = rw (labels_counted xs c.opening, texts_counted (drop (path_place c) xs) c.path, texts_counted (drop (query_place c) xs) c.query) refl
 
 -- no count is over its size
-pub counted_each : (xs : List ℕ) (c : Code.Components) → counted limits (components_of xs c) ≡ true
+pub counted_each : (xs : List ℕ) (c : Given.Components) → counted limits (components_of xs c) ≡ true
     → (label_count c.opening ≤ most_labels) × (text_count c.path ≤ limits.segments) × (text_count c.query ≤ most_parameters)
 counted_each xs c e =
     let l = leb (label_count c.opening) most_labels in

@@ -1,16 +1,9 @@
--- What a piece leaves that is added to an encoding where it may be.
-use Rattle.std.specs.Prelude.{ℕ, ◌+◌, ◌≤◌, ◌≡◌, length}
-use Rattle.std.proofs.lemmas.List.Edits.{sets}
+-- What an encoding is once a piece is added to it.
+use Rattle.std.specs.Prelude.{◌-◌, Bool, ◌&&◌, ◌++◌, length, leb}
 use Rattle.rules.specs.Bytes.{Bytes}
+use Rattle.rules.specs.Result.{Res, ok, need, ◌>>◌, LIMIT}
 use Rattle.rules.specs.Model.{limits}
 
--- the bytes w, from `at` on, end within the largest encoding
-abbrev pub Fits : ℕ → Bytes → Type 0
-Fits at w = at + length w ≤ limits.bytes
-
--- Where Good holds and the bytes w fit, they are stored from `at` on, and `to` is the place after them. `to` is within the largest encoding only there.
-pub record Added (before : Bytes) (at : ℕ) (Good : Type 0) (w after : Bytes) (to : ℕ) : Type 0 where
-  pub place : Good → Fits at w → to ≡ at + length w
-  pub bytes : Good → Fits at w → after ≡ sets before at w
-  pub good : to ≤ limits.bytes → Good
-  pub fits : to ≤ limits.bytes → Fits at w
+-- RULES 4.1, 9.2: bs and then w, where the texts of w lie inside the lent bytes, and w fits into what bs leaves of the largest encoding
+unfoldable pub added : Bool → Bytes → Bytes → Res Bytes
+added lie w bs = need (lie && leb (length w) (limits.bytes - length bs)) LIMIT 0 >> ok (bs ++ w)

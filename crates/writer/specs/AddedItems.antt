@@ -1,4 +1,4 @@
--- The items of an encoding (rules, specs/Encode) as they are added one after the other, and when RULES 9.2 lets them be.
+-- The items of an encoding (rules, specs/Encode) as they are added one after the other, and the texts in them.
 use Rattle.std.specs.Prelude.{ℕ, zero, suc, List, [], ◌∷◌, ◌++◌, map, length}
 use Rattle.std.proofs.Math.Option.{Option, none, some}
 use Rattle.rules.specs.Bytes.{Bytes, concat}
@@ -6,19 +6,19 @@ use Rattle.rules.specs.Head.{Kind, Number, head_bytes}
 use Rattle.rules.specs.Model.{Authority, Opening, discard, discard_all, full, Span, Parts, Reference, map_parts, elements}
 use Rattle.rules.specs.Reader.{taken}
 use Rattle.rules.specs.Encode.{text_item, null_item, true_item, or_null, authority_item, scheme_item, discard_alone, tail_items}
-use Rattle.rules.specs.Writing.{where_set, Lie}
+use Rattle.rules.specs.Writing.{where_set}
 use Rattle.components.specs.declared.Components.{Components}
 use Rattle.components.specs.Content.{components_of}
 
--- ---- when they may be added
+-- ---- the texts and addresses of items
 
--- 9.2: a path, a query and a fragment lie inside the lent bytes
-abbrev pub FurtherMay : Bytes → Option (List Span) → Option (List Span) → Option Span → Type 0
-FurtherMay lent p q f = Lie lent (elements p) × Lie lent (elements q) × Lie lent (where_set (λ t. t ∷ []) f)
+-- one
+abbrev pub one_text : {A : Type 0} → A → List A
+one_text t = t ∷ []
 
--- those of components
-abbrev pub TailMay : Bytes → Parts Span → Type 0
-TailMay lent c = FurtherMay lent c.path c.query c.fragment
+-- those of a path, a query and a fragment
+abbrev pub tail_texts : {A : Type 0} → Parts A → List A
+tail_texts c = elements c.path ++ elements c.query ++ where_set one_text c.fragment
 
 -- ---- items
 

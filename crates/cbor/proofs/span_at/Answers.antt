@@ -1,5 +1,8 @@
 -- `cbor::span_at` meets its contract.
+use Prim.Native.Nat.{◌+◌}
 use native.Mathlib.Omega.{arith}
+use Rattle.rules.proofs.Slices.{slice_part}
+use Rattle.rules.proofs.Tools.{length_part}
 use Rattle.cbor.proofs.Heads.{width_most, item_head, span_small, span_byte, width_byte, span_sized}
 use Rattle.cbor.proofs.span_at.Goals as goal
 
@@ -20,14 +23,22 @@ pub returns-then-info-eq24 : goal.returns-then-info-eq24
 returns-then-info-eq24 c =
     span_byte _ _ c.if-info-eq24.true (omega (arith, item_head _ _ c.requires, width_byte c.args.s.now c.args.at c.if-info-eq24.true))
 
-pub number_at-v-requires : goal.number_at-v-requires
-number_at-v-requires c =
+pub overflow_add-from-2 : goal.overflow_add-from-2
+overflow_add-from-2 c = omega (arith, c.width_of-w.ensures, item_head _ _ c.requires)
+
+pub slice_bounds-number_of-end : goal.slice_bounds-number_of-end
+slice_bounds-number_of-end c = omega (arith, c.width_of-w.ensures, item_head _ _ c.requires)
+
+pub number_of-v-requires : goal.number_of-v-requires
+number_of-v-requires c =
+    let a = c.args in
     let w = c.width_of-w.ensures in
-    (omega (arith, w, item_head _ _ c.requires), omega (arith, w, width_most _ c.requires.info))
+    let h = item_head _ _ c.requires in
+    rw (slice_part a.s.now (a.at + 1) c.width_of-w.result) (omega (arith, w, width_most _ c.requires.info, length_part a.s.now (a.at + 1) c.width_of-w.result (omega (arith, w, h))))
 
 pub overflow_add-result-2 : goal.overflow_add-result-2
 overflow_add-result-2 c =
     omega (arith, c.width_of-w.ensures, item_head _ _ c.requires)
 
 pub returns : goal.returns
-returns c = span_sized _ _ _ _ c.if-info-lt24.false c.width_of-w.ensures c.number_at-v.ensures
+returns c = span_sized _ _ _ _ c.if-info-lt24.false c.width_of-w.ensures (rw (slice_part c.args.s.now (c.args.at + 1) c.width_of-w.result) at c.number_of-v.ensures)

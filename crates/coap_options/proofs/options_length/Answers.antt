@@ -10,7 +10,7 @@ overflow_add-result c =
     let d = c.args.deltas in
     let k = c.requires.stands.0 in
     let m = c.requires.stands.1 in
-    omega (arith, value_most 3 r.host (omega arith) k.host c.value_length.ensures, value_most d.port r.port m.port k.port c.value_length-2.ensures)
+    omega (arith, c.value_length.ensures, value_most 3 r.host (omega arith) k.host, c.value_length-2.ensures, value_most d.port r.port m.port k.port)
 
 pub overflow_add-result-2 : goal.overflow_add-result-2
 overflow_add-result-2 c =
@@ -18,7 +18,7 @@ overflow_add-result-2 c =
     let d = c.args.deltas in
     let k = c.requires.stands.0 in
     let m = c.requires.stands.1 in
-    omega (arith, c.requires.link_size, value_most 3 r.host (omega arith) k.host c.value_length.ensures, value_most d.port r.port m.port k.port c.value_length-2.ensures, c.row_length.ensures, coded_most d.path c.args.s.now r.path.at r.path.count m.path k.path.0 k.path.1)
+    omega (arith, c.requires.link_size, c.value_length.ensures, value_most 3 r.host (omega arith) k.host, c.value_length-2.ensures, value_most d.port r.port m.port k.port, c.row_length.ensures, coded_most d.path c.args.s.now r.path.at r.path.count m.path k.path.0 k.path.1)
 
 pub overflow_add-result-3 : goal.overflow_add-result-3
 overflow_add-result-3 c =
@@ -26,4 +26,4 @@ overflow_add-result-3 c =
     let d = c.args.deltas in
     let k = c.requires.stands.0 in
     let m = c.requires.stands.1 in
-    omega (arith, c.requires.link_size, value_most 3 r.host (omega arith) k.host c.value_length.ensures, value_most d.port r.port m.port k.port c.value_length-2.ensures, c.row_length.ensures, coded_most d.path c.args.s.now r.path.at r.path.count m.path k.path.0 k.path.1, c.row_length-2.ensures, coded_most d.query c.args.s.now r.query.at r.query.count m.query k.query.0 k.query.1)
+    omega (arith, c.requires.link_size, c.value_length.ensures, value_most 3 r.host (omega arith) k.host, c.value_length-2.ensures, value_most d.port r.port m.port k.port, c.row_length.ensures, coded_most d.path c.args.s.now r.path.at r.path.count m.path k.path.0 k.path.1, c.row_length-2.ensures, coded_most d.query c.args.s.now r.query.at r.query.count m.query k.query.0 k.query.1)

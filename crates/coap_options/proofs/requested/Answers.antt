@@ -18,25 +18,24 @@ asked d =
     options_at a.s.now (host_of a.host) a.port (slot_of a.path) (slot_of a.query) a.to_address.now a.to_port
 
 known_at : (d : After-deltas_of-deltas)
-    → Known d.host_value.new.room d.port_value.new.room d.args.s.now
+    → Known d.args.s.now
     (record { host = d.host_value.result; port = d.port_value.result; path = d.segments.result; query = d.parameters.result }) d.deltas_of-deltas.result
     (asked d)
 known_at d =
     let a = d.args in
-    known _ _ _ _ _ d.deltas_of-deltas.ensures (host_of a.host) a.port (slot_of a.path) (slot_of a.query) a.to_address.now a.to_port
-    d.host_value.ensures d.port_value.ensures d.segments.ensures
+    known _ _ _ d.deltas_of-deltas.ensures (host_of a.host) a.port (slot_of a.path) (slot_of a.query) a.to_address.now a.to_port
+    d.host_value.ensures.value d.host_value.ensures.small d.port_value.ensures.value d.port_value.ensures.small d.segments.ensures
     (d.parameters.ensures a.s.now d.requires.texts_ask.1)
 
 -- how long the options are, where they are measured
 long : (o : After-options_length) → o.options_length.result ≡ length (asked (goal.at.After-options_length o).After-deltas_of-deltas)
 long o =
-    let k = known_at (goal.at.After-options_length o).After-deltas_of-deltas in
-    o.options_length.ensures _ _ k.host k.port ∙ ap length k.pieces
+    o.options_length.ensures ∙ ap length (known_at (goal.at.After-options_length o).After-deltas_of-deltas).pieces
 
 pub returns-then-room-options_length : goal.returns-then-room-options_length
 returns-then-room-options_length c =
     let u = right_full {room = c.args.room.now} (asked (goal.at.returns-then-room-options_length c).After-deltas_of-deltas) refl (omega (arith, c.if-room-options_length.true, long (goal.at.returns-then-room-options_length c).After-options_length)) in
-    record { result_value = c.refused.ensures ∙ u.answered; room_after = u.holds }
+    record { result_value = u.answered; room_after = u.holds }
 
 pub returns : goal.returns
 returns c =

@@ -1,25 +1,17 @@
 -- `coap_values::segments` meets its contract: a path of one empty segment is none, and any other is as it stands.
-use mathlib.Core.Path.{ap}
-use Rattle.rules.proofs.RowWalk.{first}
-use Rattle.reader.specs.Answers.{slot_of}
-use Rattle.coap_values.proofs.Values.{one_positive, unset_path, lone_empty, lone_full, not_one}
+use Rattle.coap_values.proofs.Values.{texts_row, lone_empty, lone_full, not_one}
 use Rattle.coap_values.proofs.segments.Goals as goal
+use Rattle.coap_values.proofs.segments.Goals.{else-row-eq1-via-then-row-eq1+else-span_at-eq0, else-row-eq1-via-else-row-eq1}
 
-pub returns-then-span-eq0 : goal.returns-then-span-eq0
-returns-then-span-eq0 c =
-    let h = rw (ap slot_of c.in-Set.is) at c.requires in
-    let f = first _ _ _ _ _ (one_positive c.if-n-eq1.true) h.0 c.span_at-span.ensures in
-    lone_empty _ f c.if-n-eq1.true (ap slot_of c.in-Set.is) c.if-span-eq0.true
+pub returns-then-span_at-eq0 : goal.returns-then-span_at-eq0
+returns-then-span_at-eq0 c =
+    let r = texts_row _ _ _ c.unwrap_or-row.ensures c.requires in
+    lone_empty r _ _ c.if-row-eq1.true c.span_at.ensures c.if-span_at-eq0.true
 
-pub returns-in-Unset : goal.returns-in-Unset
-returns-in-Unset c = unset_path _ (ap slot_of c.in-Unset.is)
-
-pub returns-else-span-eq0 : goal.returns-else-span-eq0
-returns-else-span-eq0 c =
-    let h = rw (ap slot_of c.in-Set.is) at c.requires in
-    let f = first _ _ _ _ _ (one_positive c.if-n-eq1.true) h.0 c.span_at-span.ensures in
-    lone_full _ f c.if-n-eq1.true (ap slot_of c.in-Set.is) c.requires c.if-span-eq0.false
-
-pub returns-else-n-eq1 : goal.returns-else-n-eq1
-returns-else-n-eq1 c =
-    not_one _ _ _ (ap slot_of c.in-Set.is) c.requires c.if-n-eq1.false
+pub returns : goal.returns
+returns c =
+    let r = texts_row _ _ _ c.unwrap_or-row.ensures c.requires in
+    elim c.else-row-eq1.branch [
+      | else-row-eq1-via-then-row-eq1+else-span_at-eq0 w ↦ lone_full r _ _ w.if-row-eq1.true w.span_at.ensures w.if-span_at-eq0.false
+      | else-row-eq1-via-else-row-eq1 w ↦ not_one r w.if-row-eq1.false
+    ]

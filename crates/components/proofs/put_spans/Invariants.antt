@@ -1,11 +1,8 @@
--- `components::put_spans` meets its contract: after each turn the numbers of the items that are left are to be put.
+-- `components::put_spans` meets its contract: what is left to put is the numbers of the spans that are left.
 use Rattle.rules.specs.Reader.{spans}
+use Rattle.put.proofs.Wrote.{Left}
 use Rattle.components.specs.Layout.{span_numbers}
-use Rattle.components.proofs.Filling.{Filling}
 use Rattle.components.proofs.put_spans.Given as goal
 
-abbrev pub invariant-loop-left : goal.invariant-loop-left
-invariant-loop-left l = Filling l.room l.o l.s l.next l.left l.initial.room l.at (span_numbers (spans l.s l.first l.n))
-
-abbrev pub decreases-loop-left : goal.decreases-loop-left
-decreases-loop-left l = l.left
+abbrev pub invariant-loop-span : goal.invariant-loop-span
+invariant-loop-span l = Left l.room l.o (span_numbers l.span-iterator) l.initial.room l.at (span_numbers (spans l.s l.fn.row.at l.fn.row.count))

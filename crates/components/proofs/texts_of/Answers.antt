@@ -2,5 +2,5 @@
 use Rattle.rules.proofs.Texts.{length_spans}
 use Rattle.components.proofs.texts_of.Goals as goal
 
-pub returns-in-Set : goal.returns-in-Set
-returns-in-Set c = λ bs. simp (c.in-Set.is, length_spans)
+pub returns : goal.returns
+returns c = λ bs. simp (c.in_ok-texts.was, length_spans)

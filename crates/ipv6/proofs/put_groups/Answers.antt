@@ -1,46 +1,49 @@
--- `ipv6::put_groups` meets its contract: the first group, and each further one after a ":".
-use Prim.Native.Nat.{ℕ, ◌+◌, ◌-◌}
+-- `ipv6::put_groups` meets its contract: what is left to write is what is left of the groups.
+use Prim.Native.Nat.{◌+◌, ◌-◌}
 use native.Mathlib.Omega.{arith}
-use mathlib.Core.Path.{◌≡◌, ap, ◌∙◌}
-use mathlib.Core.List.{◌++◌}
-use lib.ListN.{length, get_or, length-append}
-use Rattle.rules.specs.Bytes.{part, colon}
+use mathlib.Core.List.{◌∷◌}
+use lib.ListN.{length, get_or, take, drop}
+use Rattle.rules.specs.Bytes.{colon}
 use Rattle.rules.specs.Numeral.{numeral}
-use Rattle.rules.specs.Address.{groups, hex_groups}
+use Rattle.rules.specs.Address.{hex_groups}
+use Rattle.rules.proofs.Slices.{slice_rest}
 use Rattle.put.specs.Joined.{further}
-use Rattle.put.proofs.Wrote.{wrote_none, wrote_then}
-use Rattle.ipv6.proofs.Groups.{eight_groups}
+use Rattle.put.proofs.Joined.{further_none, further_step}
+use Rattle.put.proofs.Wrote.{Next, left_all, next_item, next_room, next_wrote, last_item, wrote_none, wrote_then}
 use Rattle.ipv6.proofs.GroupTexts.{no_groups, some_groups}
 use Rattle.ipv6.proofs.put_groups.Goals as goal
-use Rattle.ipv6.proofs.put_groups.Goals.{Else-n-eq0}
+use Rattle.ipv6.proofs.put_groups.Goals.{In-len1-up, In-loop-g}
 
--- where there is a first group
-pieces : (c : Else-n-eq0) → let a = c.args in let gs = groups (part a.src.now a.from 16) in
-    hex_groups (part gs a.k a.n) ≡ numeral 16 4 (get_or gs a.k 0) ++ further colon (numeral 16 4) (part gs (a.k + 1) (a.n - 1))
-pieces c =
-    let a = c.args in
-    some_groups (groups (part a.src.now a.from 16)) a.k a.n (omega (arith, eight_groups a.src.now a.from c.requires.from_in_bounds.0)) (omega arith)
+-- the first group, and then the others
+first : (s : In-len1-up) → let a = s.args in let gs = a.groups.now in
+    Next a.room.now a.at (numeral 16 4 (get_or gs 0 0)) (further colon (numeral 16 4) (take (length gs - 1) (drop 1 gs))) a.room.now a.at (hex_groups gs)
+first s = let gs = s.args.groups.now in record { left = rw (some_groups gs s.in-len1-up.len_at_least, slice_rest gs 1) left_all }
 
-lengths : (c : Else-n-eq0) → let a = c.args in let gs = groups (part a.src.now a.from 16) in
-    length (hex_groups (part gs a.k a.n)) ≡ length (numeral 16 4 (get_or gs a.k 0)) + length (further colon (numeral 16 4) (part gs (a.k + 1) (a.n - 1)))
-lengths c =
-    let a = c.args in
-    let gs = groups (part a.src.now a.from 16) in
-    ap length (pieces c) ∙ length-append (numeral 16 4 (get_or gs a.k 0)) (further colon (numeral 16 4) (part gs (a.k + 1) (a.n - 1)))
+-- a further group, and then the others
+turn : (t : In-loop-g) → let a = t.args in let l = t.loop-g in let gs = take (length a.groups.now - 1) (drop 1 a.groups.now) in
+    Next l.room l.o (colon ∷ numeral 16 4 (get_or gs l.g-index 0)) (further colon (numeral 16 4) (drop (l.g-index + 1) gs)) a.room.now a.at (hex_groups a.groups.now)
+turn t =
+    let gs = take (length t.args.groups.now - 1) (drop 1 t.args.groups.now) in
+    next_item (further colon (numeral 16 4)) (λ g. colon ∷ numeral 16 4 g) (further_step colon (numeral 16 4)) (further_none colon (numeral 16 4)) gs t.loop-g.g-index t.loop-g-test.true t.loop-g.invariant
 
-pub returns-then-n-eq0 : goal.returns-then-n-eq0
-returns-then-n-eq0 c =
-    let a = c.args in
-    rw (c.if-n-eq0.true, no_groups (groups (part a.src.now a.from 16)) a.k) wrote_none
+pub returns-in-empty : goal.returns-in-empty
+returns-in-empty c = rw (no_groups c.args.groups.now c.in-empty.len_below) wrote_none
 
-pub put_hex-p-requires : goal.put_hex-p-requires
-put_hex-p-requires c =
-    record { digits = c.requires.digits; n_in_bounds = rw c.group_at-g.ensures (omega (arith, lengths (goal.at.put_hex-p-requires c).Else-n-eq0)) }
+pub put_hex-o-requires : goal.put_hex-o-requires
+put_hex-o-requires c = next_room (first (goal.at.put_hex-o-requires c).In-len1-up) c.requires
 
-pub put_further_groups-requires : goal.put_further_groups-requires
-put_further_groups-requires c =
-    record { digits = c.requires.digits; from_in_bounds = (c.requires.from_in_bounds.0, omega arith); n_in_bounds = omega (arith, lengths (goal.at.put_further_groups-requires c).Else-n-eq0, ap (λ (n : ℕ). length (numeral 16 4 n)) c.group_at-g.ensures) }
+pub loop-g-init : goal.loop-g-init
+loop-g-init c = next_wrote (first (goal.at.loop-g-init c).In-len1-up) c.put_hex-o.ensures
 
-pub returns : goal.returns
-returns c =
-    rw (pieces (goal.at.returns c).Else-n-eq0) (wrote_then (rw c.group_at-g.ensures at c.put_hex-p.ensures) c.put_further_groups.ensures)
+pub put_byte-p-requires : goal.put_byte-p-requires
+put_byte-p-requires c = omega (arith, next_room (turn (goal.at.put_byte-p-requires c).In-loop-g) c.requires)
+
+pub put_hex-o-requires-in-loop-g : goal.put_hex-o-requires-in-loop-g
+put_hex-o-requires-in-loop-g c = omega (arith, next_room (turn (goal.at.put_hex-o-requires-in-loop-g c).In-loop-g) c.requires)
+
+pub loop-g-preserved : goal.loop-g-preserved
+loop-g-preserved c = next_wrote (turn (goal.at.loop-g-preserved c).In-loop-g) (wrote_then c.put_byte-p.ensures c.put_hex-o-in-loop-g.ensures)
+
+pub returns-after-loop-g : goal.returns-after-loop-g
+returns-after-loop-g c =
+    last_item (further colon (numeral 16 4)) (λ g. colon ∷ numeral 16 4 g) (further_step colon (numeral 16 4)) (further_none colon (numeral 16 4)) _ c.loop-g.g-index c.loop-g-test.false c.loop-g.invariant

@@ -8,7 +8,7 @@ use Rattle.outcomes.proofs.copied.Goals as goal
 pub returns-then-room-s : goal.returns-then-room-s
 returns-then-room-s c =
     let u = right_full {u = ok c.args.s.now} {room = c.args.room.now} c.args.s.now refl (omega (arith, c.if-room-s.true)) in
-    record { result_value = c.refused.ensures ∙ u.answered; room_after = u.holds }
+    record { result_value = u.answered; room_after = u.holds }
 
 pub returns : goal.returns
 returns c =

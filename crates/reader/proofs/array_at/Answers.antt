@@ -1,31 +1,43 @@
 -- `reader::array_at` meets its contract.
-use borrow.Enum.Refused.{opened}
 use native.Mathlib.Omega.{arith}
-use mathlib.Core.List.{[], ◌∷◌}
-use mathlib.Core.Path.{◌∙◌}
-use Rattle.rules.specs.Head.{code_of}
-use Rattle.reader.proofs.ItemAnswers.{item_is_lem, no_other}
-use Rattle.reader.proofs.ReaderCases as cases
+use mathlib.Core.Path.{sym, ap, ◌∙◌}
+use Rattle.rules.proofs.Steps.{bind_ok, if_yes, if_no}
+use Rattle.refusals.proofs.Steps.{stopped, left}
+use Rattle.reader.specs.Answers.{slot_is}
+use Rattle.reader.proofs.ReaderCases.{array_or_null, array_none, array_more}
 use Rattle.reader.proofs.array_at.Goals as goal
 
 pub returns-then-left-eq0 : goal.returns-then-left-eq0
-returns-then-left-eq0 c = cases.array_none _ _ _ _ _ _ c.if-left-eq0.true
+returns-then-left-eq0 c = array_none _ _ _ _ _ _ c.if-left-eq0.true
 
-pub returns-in-Array : goal.returns-in-Array
-returns-in-Array c =
-    c.array_body.ensures
-    ∙ cases.array_body_lem _ _ _ _ _ _ (omega arith) _ _ (item_is_lem _ _ _ _ c.array_or_null.ensures c.item_at.ensures c.in-Array.is)
+pub returns-in_err-head : goal.returns-in_err-head
+returns-in_err-head c =
+    stopped slot_is _ _ _ c.from_residual.ensures.1 (array_or_null _ _ c.in_err-head.ensures) ∙ array_more _ _ _ _ _ _ (omega arith)
 
-pub returns-in-Null : goal.returns-in-Null
-returns-in-Null c =
-    c.null_body.ensures
-    ∙ cases.array_null _ _ _ _ _ _ (omega arith) _ (item_is_lem _ _ _ _ c.array_or_null.ensures c.item_at.ensures c.in-Null.is)
+pub returns-in_err-next : goal.returns-in_err-next
+returns-in_err-next c =
+    left slot_is _ _ c.from_residual-in_err-next.ensures.1 c.in_err-next.ensures
+    ∙ if_yes _ _ _ (sym c.if-is.ensures)
+    ∙ bind_ok _ _ _ (array_or_null _ _ c.in_ok-head.ensures)
+    ∙ array_more _ _ _ _ _ _ (omega arith)
 
-pub returns-in-Refused : goal.returns-in-Refused
-returns-in-Refused c =
-    cases.array_refused _ _ _ _ _ _ (omega arith) _ (item_is_lem _ _ _ _ c.array_or_null.ensures c.item_at.ensures c.in-Refused.is)
+pub returns-then-is : goal.returns-then-is
+returns-then-is c =
+    c.in_ok-next.ensures
+    ∙ if_yes _ _ _ (sym c.if-is.ensures)
+    ∙ bind_ok _ _ _ (array_or_null _ _ c.in_ok-head.ensures)
+    ∙ array_more _ _ _ _ _ _ (omega arith)
 
-pub returns-in_default : goal.returns-in_default
-unfolding code_of
-returns-in_default c =
-    no_other _ _ _ c.item_at.result c.array_or_null.ensures c.item_at.ensures (0 ∷ 1 ∷ 2 ∷ 3 ∷ 5 ∷ []) (opened c.in_default.in_default-own.keys4) (tt, tt, tt, tt, tt, tt, tt, tt)
+pub returns-in_err-row : goal.returns-in_err-row
+returns-in_err-row c =
+    left slot_is _ _ c.from_residual-in_err-row.ensures.1 c.in_err-row.ensures
+    ∙ if_no _ _ _ (sym c.if-is.ensures)
+    ∙ bind_ok _ _ _ (array_or_null _ _ c.in_ok-head.ensures)
+    ∙ array_more _ _ _ _ _ _ (omega arith)
+
+pub returns : goal.returns
+returns c =
+    c.in_ok-row.ensures
+    ∙ if_no _ _ _ (sym c.if-is.ensures)
+    ∙ bind_ok _ _ _ (array_or_null _ _ c.in_ok-head.ensures)
+    ∙ array_more _ _ _ _ _ _ (omega arith)

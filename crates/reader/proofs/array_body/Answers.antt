@@ -1,31 +1,27 @@
 -- `reader::array_body` meets its contract.
 use native.Mathlib.Omega.{arith}
 use mathlib.Core.Path.{sym, ap, ◌∙◌}
+use borrow.Author.Tests.{le-leb}
 use Rattle.rules.specs.Reader.{array_body}
+use Rattle.rules.proofs.Steps.{need_yes, need_no, bind_ok}
 use Rattle.rules.proofs.Tools.{is_within}
-use Rattle.rules.proofs.Steps.{need_yes, need_no, bind_ok, bind_refused}
-use Rattle.reader.specs.Answers.{row_end_is}
-use Rattle.reader.proofs.ReaderCases.{under, over}
+use Rattle.refusals.proofs.Steps.{stopped}
+use Rattle.reader.specs.Answers.{set_before}
+use Rattle.reader.proofs.ReaderCases.{outside}
 use Rattle.reader.proofs.array_body.Goals as goal
 
-pub returns-then-n-low : goal.returns-then-n-low
+pub returns-then-head-low : goal.returns-then-head-low
 unfolding array_body
-returns-then-n-low c = let a = c.args in need_no _ _ _ _ (under a.low a.high a.n c.if-n-low.true)
+returns-then-head-low c = let a = c.args in need_no _ _ _ _ (outside a.low a.high a.head.value c.then-head-low.either)
 
-pub returns-then-high-n : goal.returns-then-high-n
+pub returns-in_err-next : goal.returns-in_err-next
 unfolding array_body
-returns-then-high-n c = let a = c.args in need_no _ _ _ _ (over a.low a.high a.n c.if-high-n.true)
-
-pub returns-in-Refused : goal.returns-in-Refused
-unfolding array_body
-returns-in-Refused c =
+returns-in_err-next c =
     let a = c.args in
-    bind_refused _ _ _ _ (ap row_end_is (sym c.in-Refused.is) ∙ c.row_at.ensures)
-    ∙ need_yes _ _ _ _ (is_within a.low a.high a.n (omega arith) (omega arith))
+    stopped set_before _ _ _ c.from_residual.ensures.1 c.in_err-next.ensures ∙ need_yes _ _ _ _ (is_within a.low a.high a.head.value (omega arith) (omega arith))
 
-pub returns-in-At : goal.returns-in-At
+pub returns : goal.returns
 unfolding array_body
-returns-in-At c =
+returns c =
     let a = c.args in
-    bind_ok _ _ _ (ap row_end_is (sym c.in-At.is) ∙ c.row_at.ensures)
-    ∙ need_yes _ _ _ _ (is_within a.low a.high a.n (omega arith) (omega arith))
+    bind_ok _ _ _ c.in_ok-next.ensures ∙ need_yes _ _ _ _ (is_within a.low a.high a.head.value (omega arith) (omega arith))

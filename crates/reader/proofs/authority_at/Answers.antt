@@ -3,31 +3,24 @@ use native.Mathlib.Omega.{arith}
 use mathlib.Core.Path.{sym, ap, ◌∙◌}
 use Rattle.rules.specs.Reader.{read_authority}
 use Rattle.rules.proofs.Tools.{is_within}
-use Rattle.rules.proofs.Steps.{need_yes, need_no, bind_ok, bind_refused}
-use Rattle.reader.specs.Answers.{head_is, read_host}
-use Rattle.reader.proofs.ReaderCases.{under, over}
+use Rattle.rules.proofs.Steps.{need_yes, need_no, bind_ok}
+use Rattle.refusals.proofs.Steps.{stopped}
+use Rattle.reader.specs.Answers.{authority_of, read_host}
+use Rattle.reader.proofs.ReaderCases.{array, outside}
 use Rattle.reader.proofs.authority_at.Goals as goal
 
-pub returns-then-items-lt1 : goal.returns-then-items-lt1
+pub returns-in_err-array : goal.returns-in_err-array
 unfolding read_authority
-returns-then-items-lt1 c =
-    need_no _ _ _ _ (under 1 9 c.in-Is.items c.if-items-lt1.true)
-    ∙ bind_ok _ _ _ (ap head_is (sym c.in-Is.is) ∙ c.array_head.ensures)
+returns-in_err-array c = stopped authority_of _ _ _ c.from_residual.ensures.1 (array _ _ c.in_err-array.ensures)
 
-pub returns-then-items-gt-AUTHORITY_ITEMS : goal.returns-then-items-gt-AUTHORITY_ITEMS
+pub returns-then-array-lt1 : goal.returns-then-array-lt1
 unfolding read_authority
-returns-then-items-gt-AUTHORITY_ITEMS c =
-    need_no _ _ _ _ (over 1 9 c.in-Is.items c.if-items-gt-AUTHORITY_ITEMS.true)
-    ∙ bind_ok _ _ _ (ap head_is (sym c.in-Is.is) ∙ c.array_head.ensures)
+returns-then-array-lt1 c =
+    need_no _ _ _ _ (outside 1 9 c.in_ok-array.array.value c.then-array-lt1.either) ∙ bind_ok _ _ _ (array _ _ c.in_ok-array.ensures)
 
-pub returns-in-Refused : goal.returns-in-Refused
-unfolding read_authority
-returns-in-Refused c =
-    bind_refused _ _ _ _ (ap head_is (sym c.in-Refused.is) ∙ c.array_head.ensures)
-
-pub returns-else-items-gt-AUTHORITY_ITEMS : goal.returns-else-items-gt-AUTHORITY_ITEMS
+pub returns : goal.returns
 unfolding read_authority read_host
-returns-else-items-gt-AUTHORITY_ITEMS c =
+returns c =
     c.host_at.ensures
-    ∙ need_yes _ _ _ _ (is_within 1 9 c.in-Is.items (omega arith) (omega arith))
-    ∙ bind_ok _ _ _ (ap head_is (sym c.in-Is.is) ∙ c.array_head.ensures)
+    ∙ need_yes _ _ _ _ (is_within 1 9 c.in_ok-array.array.value (omega arith) (omega arith))
+    ∙ bind_ok _ _ _ (array _ _ c.in_ok-array.ensures)

@@ -1,34 +1,37 @@
 -- `reader::discard_body` meets its contract.
 use native.Mathlib.Omega.{arith}
-use mathlib.Core.Bool.{not}
 use mathlib.Core.Path.{sym, ap, ◌∙◌}
-use borrow.Author.Tests.{le-leb, lt-leb}
+use mathlib.Core.Logic.{inl, inr}
+use mathlib.Core.Bool.{not, ◌&&◌}
+use lib.Dec.{eqb}
+use borrow.Author.Tests.{le-leb, lt-leb, eq-eqb, ne_eqb}
 use Rattle.rules.specs.Reader.{opening_body}
 use Rattle.rules.proofs.Steps.{need_yes, need_no}
+use Rattle.reader.proofs.ReaderCases.{not_both}
 use Rattle.reader.proofs.discard_body.Goals as goal
 
-pub returns-then-n-gt-DISCARD : goal.returns-then-n-gt-DISCARD
+pub returns-then-head-gt-DISCARD : goal.returns-then-head-gt-DISCARD
 unfolding opening_body
-returns-then-n-gt-DISCARD c = λ bs at. need_no _ _ _ _ (lt-leb c.args.n 127 c.if-n-gt-DISCARD.true)
+returns-then-head-gt-DISCARD c = λ bs. need_no _ _ _ _ (lt-leb c.args.head.value 127 c.if-head-gt-DISCARD.true)
 
 pub returns-then-count-gt-DISCARD_ITEMS : goal.returns-then-count-gt-DISCARD_ITEMS
 unfolding opening_body
-returns-then-count-gt-DISCARD_ITEMS c = λ bs at.
+returns-then-count-gt-DISCARD_ITEMS c = λ bs.
     let a = c.args in
-    need_no _ _ _ _ (lt-leb a.count 4 c.if-count-gt-DISCARD_ITEMS.true) ∙ need_yes _ _ _ _ (le-leb a.n 127 (omega arith))
+    need_no _ _ _ _ (lt-leb a.count 4 c.if-count-gt-DISCARD_ITEMS.true) ∙ need_yes _ _ _ _ (le-leb a.head.value 127 (omega arith))
 
-pub returns-then-lone_zero : goal.returns-then-lone_zero
+pub returns-then-head-eq0 : goal.returns-then-head-eq0
 unfolding opening_body
-returns-then-lone_zero c = λ bs at.
+returns-then-head-eq0 c = λ bs.
     let a = c.args in
-    need_no _ _ _ _ (ap not (sym c.lone_zero.ensures ∙ c.if-lone_zero.true))
+    need_no _ _ _ _ (rw (eq-eqb a.count 1 c.if-count-eq1.true, eq-eqb a.head.value 0 c.if-head-eq0.true))
     ∙ need_yes _ _ _ _ (le-leb a.count 4 (omega arith))
-    ∙ need_yes _ _ _ _ (le-leb a.n 127 (omega arith))
+    ∙ need_yes _ _ _ _ (le-leb a.head.value 127 (omega arith))
 
 pub returns : goal.returns
 unfolding opening_body
-returns c = λ bs at.
+returns c = λ bs.
     let a = c.args in
-    need_yes _ _ _ _ (ap not (sym c.lone_zero.ensures ∙ c.if-lone_zero.false))
+    need_yes _ _ _ _ (ap not (not_both a.count 1 a.head.value 0 c.else-count-eq1.either))
     ∙ need_yes _ _ _ _ (le-leb a.count 4 (omega arith))
-    ∙ need_yes _ _ _ _ (le-leb a.n 127 (omega arith))
+    ∙ need_yes _ _ _ _ (le-leb a.head.value 127 (omega arith))

@@ -1,36 +1,50 @@
 -- `reader::fragment_at` meets its contract.
-use borrow.Enum.Refused.{opened}
 use native.Mathlib.Omega.{arith}
-use mathlib.Core.List.{[], ◌∷◌}
-use mathlib.Core.Path.{◌∙◌}
-use Rattle.rules.specs.Head.{code_of}
+use mathlib.Core.Path.{sym, ap, ◌∙◌}
+use Rattle.rules.specs.Reader.{fragment_body}
+use Rattle.rules.proofs.Steps.{bind_ok, if_yes, if_no}
+use Rattle.refusals.proofs.Steps.{stopped, left}
 use Rattle.cbor.proofs.Heads.{head_accepted}
-use Rattle.reader.proofs.ItemAnswers.{item_is_lem, no_other}
-use Rattle.reader.proofs.ReaderCases as cases
+use Rattle.reader.specs.Answers.{fragment_is}
+use Rattle.reader.proofs.ReaderCases.{text_or_null, fragment_none, fragment_more}
 use Rattle.reader.proofs.fragment_at.Goals as goal
 
 pub returns-then-left-eq0 : goal.returns-then-left-eq0
-returns-then-left-eq0 c = cases.fragment_none _ _ _ c.if-left-eq0.true
+returns-then-left-eq0 c = fragment_none _ _ _ c.if-left-eq0.true
 
-pub fragment_body-requires : goal.fragment_body-requires
-fragment_body-requires c =
-    (head_accepted (item_is_lem _ _ _ _ c.text_or_null.ensures c.item_at.ensures c.in-Text.is)).inside
+pub returns-in_err-head : goal.returns-in_err-head
+returns-in_err-head c =
+    stopped fragment_is _ _ _ c.from_residual.ensures.1 (text_or_null _ _ c.in_err-head.ensures) ∙ fragment_more _ _ _ (omega arith)
 
-pub returns-in-Text : goal.returns-in-Text
-returns-in-Text c =
-    c.fragment_body.ensures
-    ∙ cases.fragment_body_lem _ _ _ (omega arith) _ _ (item_is_lem _ _ _ _ c.text_or_null.ensures c.item_at.ensures c.in-Text.is)
+pub returns-in_err-next : goal.returns-in_err-next
+returns-in_err-next c =
+    left fragment_is _ _ c.from_residual-in_err-next.ensures.1 c.in_err-next.ensures
+    ∙ if_yes _ _ _ (sym c.if-is.ensures)
+    ∙ bind_ok _ _ _ (text_or_null _ _ c.in_ok-head.ensures)
+    ∙ fragment_more _ _ _ (omega arith)
 
-pub returns-in-Null : goal.returns-in-Null
-returns-in-Null c =
-    c.null_body.ensures
-    ∙ cases.fragment_null _ _ _ (omega arith) _ (item_is_lem _ _ _ _ c.text_or_null.ensures c.item_at.ensures c.in-Null.is)
+pub returns-then-is : goal.returns-then-is
+returns-then-is c =
+    c.in_ok-next.ensures
+    ∙ if_yes _ _ _ (sym c.if-is.ensures)
+    ∙ bind_ok _ _ _ (text_or_null _ _ c.in_ok-head.ensures)
+    ∙ fragment_more _ _ _ (omega arith)
 
-pub returns-in-Refused : goal.returns-in-Refused
-returns-in-Refused c =
-    cases.fragment_refused _ _ _ (omega arith) _ (item_is_lem _ _ _ _ c.text_or_null.ensures c.item_at.ensures c.in-Refused.is)
+pub text_body-requires : goal.text_body-requires
+text_body-requires c = (head_accepted c.in_ok-head.ensures).inside
 
-pub returns-in_default : goal.returns-in_default
-unfolding code_of
-returns-in_default c =
-    no_other _ _ _ c.item_at.result c.text_or_null.ensures c.item_at.ensures (0 ∷ 1 ∷ 2 ∷ 4 ∷ 5 ∷ []) (opened c.in_default.in_default-own.keys4) (tt, tt, tt, tt, tt, tt, tt, tt)
+pub returns-in_err-next-2 : goal.returns-in_err-next-2
+unfolding fragment_body
+returns-in_err-next-2 c =
+    stopped fragment_is _ _ _ c.from_residual-in_err-next-2.ensures.1 c.in_err-next-2.ensures
+    ∙ if_no _ _ _ (sym c.if-is.ensures)
+    ∙ bind_ok _ _ _ (text_or_null _ _ c.in_ok-head.ensures)
+    ∙ fragment_more _ _ _ (omega arith)
+
+pub returns : goal.returns
+unfolding fragment_body
+returns c =
+    bind_ok _ _ _ c.in_ok-next-2.ensures
+    ∙ if_no _ _ _ (sym c.if-is.ensures)
+    ∙ bind_ok _ _ _ (text_or_null _ _ c.in_ok-head.ensures)
+    ∙ fragment_more _ _ _ (omega arith)

@@ -1,37 +1,27 @@
 -- `reader::host_at` meets its contract.
-use borrow.Enum.Refused.{opened}
 use native.Mathlib.Omega.{arith}
-use mathlib.Core.List.{[], ◌∷◌}
-use mathlib.Core.Path.{◌∙◌}
-use Rattle.rules.specs.Head.{code_of}
+use mathlib.Core.Path.{sym, ap, ◌∙◌}
+use Rattle.rules.proofs.Steps.{bind_ok, if_yes, if_no}
+use Rattle.refusals.proofs.Steps.{stopped}
 use Rattle.cbor.proofs.Heads.{head_accepted}
-use Rattle.reader.proofs.ItemAnswers.{item_is_lem, no_other}
-use Rattle.reader.proofs.ReaderCases as cases
+use Rattle.reader.specs.Answers.{authority_of, read_host}
+use Rattle.reader.proofs.ReaderCases.{address_or_label}
 use Rattle.reader.proofs.host_at.Goals as goal
 
-pub address_host-requires : goal.address_host-requires
-address_host-requires c =
-    (head_accepted (item_is_lem _ _ _ _ c.address_or_label.ensures c.item_at.ensures c.in-ByteString.is)).inside
+pub returns-in_err-head : goal.returns-in_err-head
+unfolding read_host
+returns-in_err-head c = stopped authority_of _ _ _ c.from_residual.ensures.1 (address_or_label _ _ c.in_err-head.ensures)
 
 pub labels_host-requires : goal.labels_host-requires
-labels_host-requires c =
-    (omega arith, item_is_lem _ _ _ _ c.address_or_label.ensures c.item_at.ensures c.in-Text.is)
+labels_host-requires c = record { left = omega arith; head = address_or_label _ _ c.in_ok-head.ensures; kind = sym c.if-is.ensures }
 
-pub returns-in-ByteString : goal.returns-in-ByteString
-returns-in-ByteString c =
-    c.address_host.ensures
-    ∙ cases.host_address _ _ _ _ _ _ (item_is_lem _ _ _ _ c.address_or_label.ensures c.item_at.ensures c.in-ByteString.is)
+pub address_host-requires : goal.address_host-requires
+address_host-requires c = (head_accepted c.in_ok-head.ensures).inside
 
-pub returns-in-Text : goal.returns-in-Text
-returns-in-Text c =
-    c.labels_host.ensures
-    ∙ cases.host_labels _ _ _ _ _ _ (item_is_lem _ _ _ _ c.address_or_label.ensures c.item_at.ensures c.in-Text.is)
+pub returns-then-is : goal.returns-then-is
+unfolding read_host
+returns-then-is c = c.labels_host.ensures ∙ if_yes _ _ _ (sym c.if-is.ensures) ∙ bind_ok _ _ _ (address_or_label _ _ c.in_ok-head.ensures)
 
-pub returns-in-Refused : goal.returns-in-Refused
-returns-in-Refused c =
-    cases.host_refused _ _ _ _ _ (item_is_lem _ _ _ _ c.address_or_label.ensures c.item_at.ensures c.in-Refused.is)
-
-pub returns-in_default : goal.returns-in_default
-unfolding code_of
-returns-in_default c =
-    no_other _ _ _ c.item_at.result c.address_or_label.ensures c.item_at.ensures (0 ∷ 1 ∷ 4 ∷ 5 ∷ 6 ∷ []) (opened c.in_default.in_default-own.keys4) (tt, tt, tt, tt, tt, tt, tt, tt)
+pub returns-else-is : goal.returns-else-is
+unfolding read_host
+returns-else-is c = c.address_host.ensures ∙ if_no _ _ _ (sym c.if-is.ensures) ∙ bind_ok _ _ _ (address_or_label _ _ c.in_ok-head.ensures)

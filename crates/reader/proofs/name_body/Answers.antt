@@ -1,15 +1,15 @@
 -- `reader::name_body` meets its contract.
 use mathlib.Core.Path.{sym, ap, ◌∙◌}
-use Rattle.rules.specs.Head.{Text}
 use Rattle.rules.specs.Reader.{opening_body}
 use Rattle.rules.proofs.Steps.{bind_ok, bind_refused}
-use Rattle.texts.specs.Answers.{step_is}
+use Rattle.reader.proofs.ReaderCases.{first_left}
+use Rattle.reader.specs.Answers.{first_is}
 use Rattle.reader.proofs.name_body.Goals as goal
 
-pub returns-in-Refused : goal.returns-in-Refused
+pub returns-in_err-end : goal.returns-in_err-end
 unfolding opening_body
-returns-in-Refused c = λ at count. bind_refused _ _ _ _ (ap (step_is at) (sym c.in-Refused.is) ∙ c.scheme_body.ensures Text at)
+returns-in_err-end c = λ count. first_left _ _ _ _ _ c.from_residual.ensures.1 (bind_refused _ _ _ _ c.in_err-end.ensures)
 
-pub returns-in-Next : goal.returns-in-Next
+pub returns : goal.returns
 unfolding opening_body
-returns-in-Next c = λ at count. bind_ok _ _ _ (ap (step_is at) (sym c.in-Next.is) ∙ c.scheme_body.ensures Text at)
+returns c = λ count. bind_ok _ _ _ c.in_ok-end.ensures

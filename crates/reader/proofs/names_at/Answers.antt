@@ -1,44 +1,45 @@
 -- `reader::names_at` meets its contract: what is left is read from where the last label ended.
-use borrow.Enum.Refused.{opened}
+use Prim.Native.Nat.{ℕ, ◌+◌}
 use native.Mathlib.Omega.{arith}
-use mathlib.Core.List.{[], ◌∷◌}
-use mathlib.Core.Path.{sym, ap, ◌∙◌}
-use Rattle.rules.specs.Head.{code_of}
+use mathlib.Core.Option.{none}
+use Rattle.rules.specs.Result.{ok}
+use mathlib.Core.Path.{◌≡◌, sym, ap, ◌∙◌}
+use Rattle.rules.proofs.Steps.{bind_ok, if_yes, if_no}
+use Rattle.refusals.proofs.Steps.{stopped}
 use Rattle.cbor.proofs.Heads.{head_accepted}
-use Rattle.texts.specs.Answers.{step_is}
-use Rattle.reader.proofs.ItemAnswers.{item_is_lem, no_other}
-use Rattle.reader.proofs.ReaderCases as cases
+use Rattle.reader.specs.Answers.{names_is}
+use Rattle.reader.proofs.ReaderCases.{text_or_number, names_none, names_more, names_next}
 use Rattle.reader.proofs.names_at.Goals as goal
 
-pub label_body-requires : goal.label_body-requires
-label_body-requires c =
-    (head_accepted (item_is_lem _ _ _ _ c.text_or_number.ensures c.item_at.ensures c.in-Text.is)).inside
+pub returns-in_err-head : goal.returns-in_err-head
+returns-in_err-head c =
+    stopped names_is _ _ _ c.from_residual.ensures.1 (text_or_number _ _ c.in_err-head.ensures) ∙ names_more _ _ _ _ (omega arith) ∙ c.loop-i.invariant
 
-pub returns-in-Refused-label_body : goal.returns-in-Refused-label_body
-returns-in-Refused-label_body c =
-    let l = c.loop-left in
-    sym (l.invariant.0 ∙ cases.label_refused _ _ _ _ c.loop-left-test.true _ _ (item_is_lem _ _ _ _ c.text_or_number.ensures c.item_at.ensures c.in-Text.is) _ (ap (step_is l.here) (sym c.in-Refused-label_body.is) ∙ c.label_body.ensures l.here))
-
-pub loop-left-preserved : goal.loop-left-preserved
-loop-left-preserved c =
-    let l = c.loop-left in
-    (l.invariant.0 ∙ cases.label_next _ _ _ _ c.loop-left-test.true _ _ (item_is_lem _ _ _ _ c.text_or_number.ensures c.item_at.ensures c.in-Text.is) _ (ap (step_is l.here) (sym c.in-Next.is) ∙ c.label_body.ensures l.here), omega arith)
-
-pub returns-in-Number : goal.returns-in-Number
-returns-in-Number c =
-    let l = c.loop-left in
+pub returns-then-not-is : goal.returns-then-not-is
+returns-then-not-is c =
     c.port_body.ensures
-    ∙ sym (l.invariant.0 ∙ cases.names_port _ _ _ _ c.loop-left-test.true _ _ (item_is_lem _ _ _ _ c.text_or_number.ensures c.item_at.ensures c.in-Number.is))
+    ∙ if_no _ _ _ (sym c.if-not-is.ensures)
+    ∙ bind_ok _ _ _ (text_or_number _ _ c.in_ok-head.ensures)
+    ∙ names_more _ _ _ _ (omega arith)
+    ∙ c.loop-i.invariant
 
-pub returns-in-Refused : goal.returns-in-Refused
-returns-in-Refused c =
-    let l = c.loop-left in
-    sym (l.invariant.0 ∙ cases.names_refused _ _ _ _ c.loop-left-test.true _ (item_is_lem _ _ _ _ c.text_or_number.ensures c.item_at.ensures c.in-Refused.is))
+pub label_body-requires : goal.label_body-requires
+label_body-requires c = (head_accepted c.in_ok-head.ensures).inside
 
-pub returns-in_default : goal.returns-in_default
-unfolding code_of
-returns-in_default c =
-    no_other _ _ _ c.item_at.result c.text_or_number.ensures c.item_at.ensures (1 ∷ 2 ∷ 4 ∷ 5 ∷ 6 ∷ []) (opened c.in_default.in_default-own.keys4) (tt, tt, tt, tt, tt, tt, tt, tt)
+pub returns-in_err-here : goal.returns-in_err-here
+returns-in_err-here c =
+    stopped names_is _ _ _ c.from_residual-in_err-here.ensures.1 c.in_err-here.ensures
+    ∙ if_yes _ _ _ (sym c.if-not-is.ensures)
+    ∙ bind_ok _ _ _ (text_or_number _ _ c.in_ok-head.ensures)
+    ∙ names_more _ _ _ _ (omega arith)
+    ∙ c.loop-i.invariant
+
+pub loop-i-preserved : goal.loop-i-preserved
+loop-i-preserved c =
+    names_next _ _ _ _ _ _ _ (omega arith) (omega arith) (omega arith) _ (sym c.if-not-is.ensures) (text_or_number _ _ c.in_ok-head.ensures) c.in_ok-here.ensures
+    ∙ c.loop-i.invariant
 
 pub returns : goal.returns
-returns c = let l = c.loop-left in sym (l.invariant.0 ∙ cases.names_none _ _ _ _ (omega arith))
+returns c =
+    let n : c.args.count + c.args.items ≡ c.args.count + c.loop-i.i = omega arith in
+    ap (λ (n : ℕ). ok (record { count = n; port = none; next = c.loop-i.here })) n ∙ names_none _ _ _ _ (omega arith) ∙ c.loop-i.invariant

@@ -1,33 +1,44 @@
 -- `reader::rest_at` meets its contract.
+use native.Mathlib.Omega.{arith}
 use mathlib.Core.Path.{sym, ap, ◌∙◌}
+use lib.ListN.{length}
+use borrow.Author.Tests.{le-leb, lt-leb}
 use Rattle.rules.specs.Reader.{read_array, read_fragment}
 use Rattle.rules.specs.Rules.{parameter}
-use Rattle.rules.proofs.Steps.{bind_ok, bind_refused}
-use Rattle.reader.specs.Answers.{slot_is, read_rest}
+use Rattle.rules.proofs.Steps.{need_yes, need_no, bind_ok}
+use Rattle.refusals.proofs.Steps.{stopped}
+use Rattle.reader.specs.Answers.{found_of, read_rest}
 use Rattle.reader.proofs.rest_at.Goals as goal
 
-pub returns-in-Refused : goal.returns-in-Refused
+pub returns-in_err-path : goal.returns-in_err-path
 unfolding read_rest
-returns-in-Refused c =
-    bind_refused _ _ _ _ (ap slot_is (sym c.in-Refused.is) ∙ c.array_at.ensures)
+returns-in_err-path c = stopped found_of _ _ _ c.from_residual.ensures.1 c.in_err-path.ensures
 
-pub returns-in-Refused-array_at : goal.returns-in-Refused-array_at
+pub returns-in_err-query : goal.returns-in_err-query
 unfolding read_rest
-returns-in-Refused-array_at c =
-    bind_refused _ _ _ _ (ap slot_is (sym c.in-Refused-array_at.is) ∙ c.array_at-in-Is.ensures ∙ ap (read_array parameter 1 16 _ _) c.minus.ensures)
-    ∙ bind_ok _ _ _ (ap slot_is (sym c.in-Is.is) ∙ c.array_at.ensures)
+returns-in_err-query c =
+    stopped found_of _ _ _ c.from_residual-in_err-query.ensures.1 (c.in_err-query.ensures ∙ ap (read_array parameter 1 16 _ _) c.saturating_sub.ensures)
+    ∙ bind_ok _ _ _ c.in_ok-path.ensures
 
-pub returns-in-Refused-fragment_at : goal.returns-in-Refused-fragment_at
+pub returns-in_err-fragment : goal.returns-in_err-fragment
 unfolding read_rest
-returns-in-Refused-fragment_at c =
-    bind_refused _ _ _ _ (ap slot_is (sym c.in-Refused-fragment_at.is) ∙ c.fragment_at.ensures ∙ ap (read_fragment _ _) c.minus-in-Is-array_at.ensures)
-    ∙ bind_ok _ _ _ (ap slot_is (sym c.in-Is-array_at.is) ∙ c.array_at-in-Is.ensures ∙ ap (read_array parameter 1 16 _ _) c.minus.ensures)
-    ∙ bind_ok _ _ _ (ap slot_is (sym c.in-Is.is) ∙ c.array_at.ensures)
+returns-in_err-fragment c =
+    stopped found_of _ _ _ c.from_residual-in_err-fragment.ensures.1 (c.in_err-fragment.ensures ∙ ap (read_fragment _ _) c.saturating_sub-2.ensures)
+    ∙ bind_ok _ _ _ (c.in_ok-query.ensures ∙ ap (read_array parameter 1 16 _ _) c.saturating_sub.ensures)
+    ∙ bind_ok _ _ _ c.in_ok-path.ensures
 
-pub returns-in-Is-fragment_at : goal.returns-in-Is-fragment_at
+pub returns-then-end-s : goal.returns-then-end-s
 unfolding read_rest
-returns-in-Is-fragment_at c =
-    c.finish.ensures
-    ∙ bind_ok _ _ _ (ap slot_is (sym c.in-Is-fragment_at.is) ∙ c.fragment_at.ensures ∙ ap (read_fragment _ _) c.minus-in-Is-array_at.ensures)
-    ∙ bind_ok _ _ _ (ap slot_is (sym c.in-Is-array_at.is) ∙ c.array_at-in-Is.ensures ∙ ap (read_array parameter 1 16 _ _) c.minus.ensures)
-    ∙ bind_ok _ _ _ (ap slot_is (sym c.in-Is.is) ∙ c.array_at.ensures)
+returns-then-end-s c =
+    need_no _ _ _ _ (lt-leb (length c.args.s.now) c.in_ok-fragment.end c.if-end-s.true)
+    ∙ bind_ok _ _ _ (c.in_ok-fragment.ensures ∙ ap (read_fragment _ _) c.saturating_sub-2.ensures)
+    ∙ bind_ok _ _ _ (c.in_ok-query.ensures ∙ ap (read_array parameter 1 16 _ _) c.saturating_sub.ensures)
+    ∙ bind_ok _ _ _ c.in_ok-path.ensures
+
+pub returns : goal.returns
+unfolding read_rest
+returns c =
+    need_yes _ _ _ _ (le-leb (length c.args.s.now) c.in_ok-fragment.end c.if-end-s.false)
+    ∙ bind_ok _ _ _ (c.in_ok-fragment.ensures ∙ ap (read_fragment _ _) c.saturating_sub-2.ensures)
+    ∙ bind_ok _ _ _ (c.in_ok-query.ensures ∙ ap (read_array parameter 1 16 _ _) c.saturating_sub.ensures)
+    ∙ bind_ok _ _ _ c.in_ok-path.ensures

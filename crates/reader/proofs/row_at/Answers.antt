@@ -1,19 +1,16 @@
 -- `reader::row_at` meets its contract: what is left is read from where the last text ended.
-use mathlib.Core.Path.{sym, ap, ◌∙◌}
 use native.Mathlib.Omega.{arith}
-use Rattle.texts.specs.Answers.{step_is}
-use Rattle.reader.proofs.ReaderCases.{texts_next, texts_refused, texts_none}
+use mathlib.Core.Path.{◌∙◌}
+use Rattle.reader.proofs.ReaderCases.{row_none, row_more, row_next}
+use Rattle.refusals.proofs.Steps.{stopped}
 use Rattle.reader.proofs.row_at.Goals as goal
 
-pub returns-in-Refused : goal.returns-in-Refused
-returns-in-Refused c =
-    let l = c.loop-left in
-    sym (l.invariant ∙ texts_refused _ _ _ _ _ c.loop-left-test.true (ap (step_is l.here) (sym c.in-Refused.is) ∙ c.text_at.ensures))
+pub returns-in_err-here : goal.returns-in_err-here
+returns-in_err-here c =
+    stopped (λ n. n) _ _ _ c.from_residual.ensures.1 c.in_err-here.ensures ∙ row_more _ _ _ _ (omega arith) ∙ c.loop-i.invariant
 
-pub loop-left-preserved : goal.loop-left-preserved
-loop-left-preserved c =
-    let l = c.loop-left in
-    l.invariant ∙ texts_next _ _ _ _ _ c.loop-left-test.true (ap (step_is l.here) (sym c.in-Next.is) ∙ c.text_at.ensures)
+pub loop-i-preserved : goal.loop-i-preserved
+loop-i-preserved c = row_next _ _ _ _ _ _ (omega arith) (omega arith) c.in_ok-here.ensures ∙ c.loop-i.invariant
 
 pub returns : goal.returns
-returns c = let l = c.loop-left in sym (l.invariant ∙ texts_none _ _ _ _ (omega arith))
+returns c = row_none _ _ _ _ (omega arith) ∙ c.loop-i.invariant

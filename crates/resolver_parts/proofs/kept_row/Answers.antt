@@ -1,4 +1,5 @@
 -- `resolver_parts::kept_row` meets its contract.
+use mathlib.Core.Logic.{inl, inr}
 use Prim.Native.Nat.{ℕ, ◌-◌}
 use mathlib.Core.Path.{sym, ap}
 use lib.ListN.{take}
@@ -12,12 +13,8 @@ unfolding kept
 returns-in-Discard c =
     let a = c.args in
     simp c.in-Discard.is
-    (row_as (ap (λ (n : ℕ). take (n - c.in-Discard.k) (row_texts a.s.now a.row)) (sym (length_contents a.s.now a.row.start a.row.count))) c.without_last.ensures)
+    (row_as (ap (λ (n : ℕ). take (n - c.in-Discard.k) (row_texts a.s.now a.row)) (sym (length_contents a.s.now a.row.span.start a.row.count))) c.without_last.ensures)
 
 pub returns-in-DiscardAll : goal.returns-in-DiscardAll
 unfolding kept
-returns-in-DiscardAll c = simp c.in-DiscardAll.is (row_none _ c.no_row.ensures)
-
-pub returns-in-Full : goal.returns-in-Full
-unfolding kept
-returns-in-Full c = simp c.in-Full.is (row_none _ c.no_row-in-Full.ensures)
+returns-in-DiscardAll c = elim c.in-DiscardAll.is [ inl e ↦ simp e row_none | inr e ↦ simp e.2 row_none ]

@@ -6,7 +6,7 @@ use Rattle.resolver_parts.proofs.ResultParts.{row_none, row_as, row_length}
 use Rattle.resolver_parts.proofs.normal_row.Goals as goal
 
 pub returns-then-row-lt2 : goal.returns-then-row-lt2
-returns-then-row-lt2 c = λ bs ts p. row_as (sym (normal_short ts (omega (arith, row_length p, c.if-row-lt2.true)))) (row_none _ c.no_row.ensures)
+returns-then-row-lt2 c = λ bs ts p. row_as (sym (normal_short ts (omega (arith, row_length p, c.if-row-lt2.true)))) row_none
 
-pub returns : goal.returns
-returns c = λ bs ts p. row_as (sym (normal_long ts (omega (arith, row_length p, c.if-row-lt2.false)))) p
+pub returns-else-row-lt2 : goal.returns-else-row-lt2
+returns-else-row-lt2 c = λ bs ts p. row_as (sym (normal_long ts (omega (arith, row_length p, c.if-row-lt2.false)))) p

@@ -2,6 +2,6 @@
 use Rattle.sameness.proofs.Answers.{wrote_both}
 use Rattle.sameness.proofs.wrote_same.Goals as goal
 
-pub returns-in-Written-second : goal.returns-in-Written-second
-returns-in-Written-second c =
-    wrote_both c.in-Written.is c.in-Written-second.is c.same_at.ensures
+pub returns-in-Ok-second : goal.returns-in-Ok-second
+returns-in-Ok-second c =
+    wrote_both c.in-Ok.is c.in-Ok-second.is c.same.ensures

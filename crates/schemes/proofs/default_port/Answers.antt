@@ -1,19 +1,16 @@
--- `schemes::default_port` meets its contract: by whether there is a name.
-use mathlib.Core.Path.{sym, ap, ◌∙◌}
-use mathlib.Core.Option.{some, map}
+-- `schemes::default_port` meets its contract: by whether there is an entry.
+use mathlib.Core.Path.{sym, ap}
+use mathlib.Core.Option.{map}
 use Rattle.rules.specs.Rules.{SchemeEntry, schemes, scheme_in}
 use Rattle.schemes.specs.Schemes.{default_port}
-use Rattle.schemes.proofs.Table.{no_name, port_of_lem}
+use Rattle.schemes.proofs.Table.{no_entry_is, port_is}
 use Rattle.schemes.proofs.default_port.Goals as goal
 
-pub returns-then-entry-eq0 : goal.returns-then-entry-eq0
+pub returns-in_err-entry_by_number : goal.returns-in_err-entry_by_number
 unfolding default_port
-returns-then-entry-eq0 c =
-    let m = no_name c.args.number (sym c.entry_of-entry.ensures.length_value ∙ c.if-entry-eq0.true) in
-    sym (ap (map (λ (c : SchemeEntry). c.port)) m)
+returns-in_err-entry_by_number c =
+    rw c.from_residual.ensures (sym (ap (map (λ (e : SchemeEntry). e.port)) (no_entry_is (scheme_in schemes c.args.number) c.entry_by_number.ensures c.in_err-entry_by_number.was)))
 
 pub returns : goal.returns
 unfolding default_port
-returns c =
-    let m = scheme_in schemes c.args.number in
-    ap some c.entry_of-entry.ensures.port_value ∙ port_of_lem m (λ q. c.if-entry-eq0.false (c.entry_of-entry.ensures.length_value ∙ q))
+returns c = port_is (scheme_in schemes c.args.number) _ c.entry_by_number.ensures c.in_ok-entry_by_number.was

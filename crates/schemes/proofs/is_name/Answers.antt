@@ -11,4 +11,4 @@ unfolding known_name
 returns-then-has_name c = name_found _ schemes _ (sym c.has_name.ensures ∙ c.if-has_name.true)
 
 pub returns : goal.returns
-returns c = no_name_found _ (λ k h. c.loop-number.invariant.1 k (omega arith))
+returns c = no_name_found _ (λ k h. c.loop-number.invariant k (omega arith))

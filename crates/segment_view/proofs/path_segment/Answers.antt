@@ -5,23 +5,23 @@ use Rattle.rules.specs.Result.{ok, given}
 use Rattle.cbor_rows.proofs.Rows.{first_items, nth_span, no_span}
 use Rattle.segment_view.proofs.path_segment.Goals as goal
 
+pub returns-in_default : goal.returns-in_default
+unfolding given
+returns-in_default c = simp c.in_default.is
+
 pub nth_span-requires : goal.nth_span-requires
 nth_span-requires c =
-    let p = rw c.in-Set.is at c.requires in
-    first_items _ _ _ (suc _) c.if-n-count.true p.each
+    let p = rw c.in-Some.is at c.requires in
+    first_items _ _ _ (suc _) c.if-row-n.false p.each
 
-pub returns-in-Unset : goal.returns-in-Unset
+pub returns-then-row-n : goal.returns-then-row-n
 unfolding given
-returns-in-Unset c = simp c.in-Unset.is
+returns-then-row-n c =
+    let r = c.in-Some.row in
+    simp (c.in-Some.is, no_span c.args.s.now r.at r.count _ c.if-row-n.true)
 
-pub returns-then-n-count : goal.returns-then-n-count
+pub returns : goal.returns
 unfolding given
-returns-then-n-count c =
-    let s = c.args.s.now in
-    simp (c.in-Set.is, nth_span s c.in-Set.at c.in-Set.count _ c.if-n-count.true) (ap ok c.nth_span.ensures)
-
-pub returns-else-n-count : goal.returns-else-n-count
-unfolding given
-returns-else-n-count c =
-    let s = c.args.s.now in
-    simp (c.in-Set.is, no_span s c.in-Set.at c.in-Set.count _ c.if-n-count.false)
+returns c =
+    let r = c.in-Some.row in
+    simp (c.in-Some.is, nth_span c.args.s.now r.at r.count _ c.if-row-n.false) (ap ok c.nth_span.ensures)

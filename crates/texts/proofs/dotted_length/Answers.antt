@@ -1,23 +1,36 @@
--- `texts::dotted_length` meets its contract. The loop's invariant: what is left is to be added to the total, which is no more than the bytes passed.
+-- `texts::dotted_length` meets its contract.
+use Prim.Native.Nat.{◌+◌, ◌^◌, ◌<◌}
 use native.Mathlib.Omega.{arith}
-use mathlib.Core.Path.{ap}
+use mathlib.Core.Path.{◌∙◌}
+use mathlib.Core.List.{List}
 use lib.ListN.{length}
-use Rattle.rules.proofs.RowWalk.{First, first, none_left}
-use Rattle.texts.specs.Answers.{dotted_length}
-use Rattle.texts.proofs.RuleCases.{dotted_next}
+use denote.Bor.{Bor}
+use borrow.Author.Rules.{rules}
+use Rattle.std.specs.List.{sum_by}
+use Rattle.std.proofs.lemmas.Iterator.{YieldsList-from_map}
+use Rattle.std.proofs.lemmas.Iterator.Consumers.{YieldsList-at, YieldsList-from_first, sum_by_from_yields_List, fits_by_from_yields_list}
+use Rattle.rules.specs.Bytes.{Bytes}
+use Rattle.rules.specs.Reader.{contents}
+use Rattle.texts.proofs.RuleCases.{dotted_most, dotted_sum}
 use Rattle.texts.proofs.dotted_length.Goals as goal
-use Rattle.texts.proofs.dotted_length.Goals.{After-span_at-span}
 
--- the label that the span is of
-next : (c : After-span_at-span)
-    → First c.args.s.now c.loop-left.here c.loop-left.left c.span_at-span.result.start c.span_at-span.result.length
-next c = let l = c.loop-left in first _ l.here l.left _ _ c.loop-left-test.true l.invariant.0 c.span_at-span.ensures
-
-pub loop-left-preserved : goal.loop-left-preserved
-loop-left-preserved c =
-    let f = next (goal.at.loop-left-preserved c).After-span_at-span in
-    (f.others, omega (arith, f.inside), omega (arith, f.after), omega (arith, dotted_next _ _ _ _ _ f))
+pub sum-requires-clause-fits : goal.sum-requires-clause-fits
+sum-requires-clause-fits c =
+    let a = c.args in
+    let ts = contents a.s.now a.at a.count in
+    let most : sum_by (λ t. length t + 1) ts < 2 ^ 64 = omega (arith, dotted_sum ts, dotted_most a.s.now a.at a.count c.requires.0 c.requires.1) in
+    fits_by_from_yields_list (λ (t : Bytes). length t + 1) ts c.map.result _
+    (YieldsList-from_map _ (λ (t : Bytes). length t + 1)
+    (YieldsList-at c.map.ensures.source (YieldsList-from_first (λ (x : Bor Bytes). x.now) (λ (ts : List Bytes). ts) ts c.texts_at.ensures))
+    c.map.ensures.closure (λ x r q k. search rules))
+    most
 
 pub returns : goal.returns
-unfolding dotted_length
-returns c = let l = c.loop-left in omega (arith, ap dotted_length (none_left c.args.s.now l.here l.left c.loop-left-test.false))
+returns c =
+    let a = c.args in
+    let ts = contents a.s.now a.at a.count in
+    sum_by_from_yields_List (λ (t : Bytes). length t + 1) ts c.map.result _ c.sum.ensures.ran
+    (YieldsList-from_map _ (λ (t : Bytes). length t + 1)
+    (YieldsList-at c.map.ensures.source (YieldsList-from_first (λ (x : Bor Bytes). x.now) (λ (ts : List Bytes). ts) ts c.texts_at.ensures))
+    c.map.ensures.closure (λ x r q k. search rules))
+    ∙ dotted_sum ts

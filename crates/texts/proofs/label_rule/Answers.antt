@@ -1,20 +1,15 @@
--- `texts::label_rule` meets its contract. The loop's invariant: the test of what is left is the test of the whole.
-use mathlib.Core.Path.{sym, ◌∙◌}
+-- `texts::label_rule` meets its contract.
+use mathlib.Core.Path.{◌≡◌, ◌∙◌}
+use Rattle.std.specs.List.{list_all}
+use Rattle.std.proofs.lemmas.Iterator.{YieldsList-from_slice}
+use Rattle.std.proofs.lemmas.Iterator.Search.{all_from_yields_List}
 use Rattle.rules.specs.Rules.{label_byte, label_rule}
-use Rattle.texts.proofs.ByteWalk.{tested_next, tested_no, tested_all}
+use borrow.Author.Rules.{rules}
+use Rattle.texts.proofs.RuleCases.{list_all_is_all}
 use Rattle.texts.proofs.label_rule.Goals as goal
-
-pub loop-i-preserved : goal.loop-i-preserved
-loop-i-preserved c =
-    let l = c.loop-i in
-    tested_next _ _ _ _ l.i l.invariant c.loop-i-test.true (sym c.label_byte.ensures ∙ c.if-label_byte.true)
-
-pub returns-else-label_byte : goal.returns-else-label_byte
-unfolding label_rule
-returns-else-label_byte c =
-    let l = c.loop-i in
-    tested_no _ _ _ _ l.i l.invariant c.loop-i-test.true (sym c.label_byte.ensures ∙ c.if-label_byte.false)
 
 pub returns : goal.returns
 unfolding label_rule
-returns c = let l = c.loop-i in tested_all _ _ _ _ l.i l.invariant c.loop-i-test.false
+returns c =
+    let e : c.all.result ≡ list_all label_byte c.args.text.now = all_from_yields_List label_byte _ _ _ c.all.ensures.ran (YieldsList-from_slice c.args.text.now cc) (λ x b q k. search rules) in
+    e ∙ list_all_is_all label_byte c.args.text.now

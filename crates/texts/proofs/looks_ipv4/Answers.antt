@@ -1,31 +1,24 @@
--- `texts::looks_ipv4` meets its contract. The loop's invariant: the labels that are left look as all do.
-use mathlib.Core.Path.{sym, ap, ◌∙◌}
-use Rattle.rules.specs.Bytes.{all}
+-- `texts::looks_ipv4` meets its contract.
+use mathlib.Core.Path.{◌≡◌, sym, ◌∙◌}
+use borrow.Author.Rules.{rules}
+use borrow.Author.Tests.{ne_eqb}
+use mathlib.Core.List.{List}
+use denote.Bor.{Bor}
+use Rattle.std.specs.List.{list_all}
+use Rattle.std.proofs.lemmas.Iterator.Consumers.{YieldsList-from_first}
+use Rattle.std.proofs.lemmas.Iterator.Search.{all_from_yields_List}
+use Rattle.rules.specs.Bytes.{Bytes}
 use Rattle.rules.specs.Rules.{octet}
-use Rattle.rules.proofs.RowWalk.{First, first, none_left}
-use Rattle.texts.proofs.RuleCases.{looks_other, looks_four, all_next, all_no}
+use Rattle.rules.specs.Reader.{contents}
+use Rattle.texts.proofs.RuleCases.{list_all_is_all, looks_other, looks_four}
 use Rattle.texts.proofs.looks_ipv4.Goals as goal
-use Rattle.texts.proofs.looks_ipv4.Goals.{After-span_at-span}
 
--- the label that the span is of
-next : (c : After-span_at-span)
-    → First c.args.s.now c.loop-left.here c.loop-left.left c.span_at-span.result.start c.span_at-span.result.length
-next c = let l = c.loop-left in first _ l.here l.left _ _ c.loop-left-test.true l.invariant.0 c.span_at-span.ensures
+pub returns-then-count-eq4 : goal.returns-then-count-eq4
+returns-then-count-eq4 c =
+    let a = c.args in
+    let e : c.all.result ≡ list_all octet (contents a.s.now a.at a.count) =
+    all_from_yields_List octet _ _ _ c.all.ensures.ran (YieldsList-from_first (λ (x : Bor Bytes). x.now) (λ (ts : List Bytes). ts) (contents a.s.now a.at a.count) c.texts_at.ensures) (λ x b q k. search rules) in
+    e ∙ list_all_is_all octet (contents a.s.now a.at a.count) ∙ sym (looks_four a.s.now a.at a.count c.if-count-eq4.true)
 
-pub returns-then-count-ne4 : goal.returns-then-count-ne4
-returns-then-count-ne4 c = looks_other _ _ _ c.if-count-ne4.true
-
-pub loop-left-init : goal.loop-left-init
-loop-left-init c = (c.requires, looks_four _ _ _ c.if-count-ne4.false)
-
-pub loop-left-preserved : goal.loop-left-preserved
-loop-left-preserved c =
-    ((next (goal.at.loop-left-preserved c).After-span_at-span).others, c.loop-left.invariant.1 ∙ all_next _ _ _ _ _ (next (goal.at.loop-left-preserved c).After-span_at-span) octet (sym c.octet_at.ensures ∙ c.if-octet_at.true))
-
-pub returns-else-octet_at : goal.returns-else-octet_at
-returns-else-octet_at c =
-    sym (c.loop-left.invariant.1 ∙ all_no _ _ _ _ _ (next (goal.at.returns-else-octet_at c).After-span_at-span) octet (sym c.octet_at.ensures ∙ c.if-octet_at.false))
-
-pub returns : goal.returns
-unfolding all
-returns c = let l = c.loop-left in sym (l.invariant.1 ∙ ap (all octet) (none_left _ l.here l.left c.loop-left-test.false))
+pub returns-else-count-eq4 : goal.returns-else-count-eq4
+returns-else-count-eq4 c = ne_eqb _ _ c.if-count-eq4.false ∙ looks_other _ _ _ c.if-count-eq4.false

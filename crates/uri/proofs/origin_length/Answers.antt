@@ -16,7 +16,7 @@ pub host_length-requires : goal.host_length-requires
 host_length-requires c =
     let bs = c.args.s.now in
     let e = ap opening_of c.in-Full.is in
-    record { table = c.requires.table; link_size = c.requires.link_size; host_prints = (full_prints bs e c.requires.opening_prints).1; short = omega (arith, c.requires.short, origin_sum bs e) }
+    record { link_size = c.requires.link_size; host_prints = (full_prints bs e c.requires.opening_prints).1; short = omega (arith, c.requires.short, origin_sum bs e) }
 
 pub overflow_add-result-in-Full : goal.overflow_add-result-in-Full
 overflow_add-result-in-Full c =

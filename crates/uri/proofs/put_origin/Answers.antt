@@ -19,7 +19,7 @@ pub put_host-r-requires : goal.put_host-r-requires
 put_host-r-requires c =
     let bs = c.args.s.now in
     let e = ap opening_of c.in-Full.is in
-    record { table = c.requires.table; host_prints = (full_prints bs e c.requires.opening_prints).1; host_in_bounds = omega (arith, c.requires.opening_in_bounds, origin_sum bs e, c.put_scheme-p.ensures.place, wrote_length c.put_scheme-p.ensures, c.put_bytes-q.ensures.place, wrote_length c.put_bytes-q.ensures) }
+    record { host_prints = (full_prints bs e c.requires.opening_prints).1; host_in_bounds = omega (arith, c.requires.opening_in_bounds, origin_sum bs e, c.put_scheme-p.ensures.place, wrote_length c.put_scheme-p.ensures, c.put_bytes-q.ensures.place, wrote_length c.put_bytes-q.ensures) }
 
 pub put_port-requires : goal.put_port-requires
 put_port-requires c =

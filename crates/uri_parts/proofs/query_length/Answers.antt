@@ -6,8 +6,8 @@ use Rattle.rules.specs.Bytes.{question, ampersand}
 use Rattle.uri_parts.proofs.Pieces.{query_unset, query_set}
 use Rattle.uri_parts.proofs.query_length.Goals as goal
 
-pub returns-in-Unset : goal.returns-in-Unset
-returns-in-Unset c = ap length (query_unset c.args.s.now (ap slot_of c.in-Unset.is))
+pub returns-in-None : goal.returns-in-None
+returns-in-None c = ap length (query_unset c.args.s.now (ap slot_of c.in-None.is))
 
-pub returns-in-Set : goal.returns-in-Set
-returns-in-Set c = c.row_length.ensures question ampersand ∙ ap length (query_set _ (ap slot_of c.in-Set.is))
+pub returns-in-Some : goal.returns-in-Some
+returns-in-Some c = c.row_length.ensures question ampersand ∙ ap length (query_set _ (ap slot_of c.in-Some.is))

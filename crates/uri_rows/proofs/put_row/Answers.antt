@@ -1,8 +1,10 @@
--- `uri_rows::put_row` meets its contract: none is the mark alone, and some are the texts after marks.
-use mathlib.Core.Path.{sym}
-use Rattle.put.proofs.Wrote.{wrote_as}
+-- `uri_rows::put_row` meets its contract: what is left to write is the texts that are left, the first of them after the mark.
+use native.Mathlib.Omega.{arith}
+use mathlib.Core.Path.{sym, ◌∙◌}
+use Rattle.put.proofs.Wrote.{left_all, next_room, next_wrote, wrote_then, wrote_as, wrote_length}
 use Rattle.uri_escape.specs.Escape.{class_is}
 use Rattle.uri_rows.proofs.Marked.{row_none, row_some}
+use Rattle.uri_rows.proofs.MarkedTurns.{marked_next, marked_done}
 use Rattle.uri_rows.proofs.put_row.Goals as goal
 
 pub returns-then-count-eq0 : goal.returns-then-count-eq0
@@ -10,12 +12,20 @@ returns-then-count-eq0 c =
     let a = c.args in
     wrote_as (sym (row_none (class_is a.class) a.mark a.delimiter a.s.now a.from a.count c.if-count-eq0.true)) c.put_byte.ensures
 
-pub put_marked-requires : goal.put_marked-requires
-put_marked-requires c =
+pub loop-text-init : goal.loop-text-init
+loop-text-init c =
     let a = c.args in
-    record { table = c.requires.table; row_at = c.requires.row_at; count_in_bounds = rw (row_some (class_is a.class) a.mark a.delimiter a.s.now a.from a.count c.if-count-eq0.false) c.requires.count_in_bounds }
+    rw (c.into_iter-text-iterator.ensures.into_iter_gives ∙ c.texts_at-text-items.ensures, row_some (class_is a.class) a.mark a.delimiter a.s.now a.from a.count c.if-count-eq0.false) left_all
+
+pub put_byte-p-requires : goal.put_byte-p-requires
+put_byte-p-requires c = omega (arith, next_room (marked_next _ _ _ c.in-Some.ensures.steps c.loop-text.invariant) c.requires.count_in_bounds)
+
+pub put_escaped-o-requires : goal.put_escaped-o-requires
+put_escaped-o-requires c =
+    omega (arith, next_room (marked_next _ _ _ c.in-Some.ensures.steps c.loop-text.invariant) c.requires.count_in_bounds, c.put_byte-p.ensures.place, wrote_length c.put_byte-p.ensures)
+
+pub loop-text-preserved : goal.loop-text-preserved
+loop-text-preserved c = next_wrote (marked_next _ _ _ c.in-Some.ensures.steps c.loop-text.invariant) (wrote_then c.put_byte-p.ensures c.put_escaped-o.ensures)
 
 pub returns : goal.returns
-returns c =
-    let a = c.args in
-    wrote_as (row_some (class_is a.class) a.mark a.delimiter a.s.now a.from a.count c.if-count-eq0.false) c.put_marked.ensures
+returns c = marked_done _ _ _ c.in-None.ensures.steps.0 c.loop-text.invariant

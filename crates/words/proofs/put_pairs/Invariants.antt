@@ -1,13 +1,16 @@
 -- `words::put_pairs` meets its contract: what is left to write is the rest of the word.
-use Prim.Native.Nat.{◌*◌, ◌-◌, ◌/◌, ◌≤◌}
-use mathlib.Core.Path.{◌≡◌}
-use lib.ListN.{length, drop}
-use Rattle.words.specs.Words.{pair_bytes}
-use Rattle.put.proofs.Wrote.{Left}
+use Rattle.std.proofs.Common.{◌≡◌, ◌+◌, ◌/◌, true, length}
+use Rattle.std.proofs.lemmas.List.Edits.{sets}
+use Rattle.words.specs.Words.{are_digits, pair_bytes}
 use Rattle.words.proofs.put_pairs.Given as goal
 
-abbrev pub invariant-loop-i : goal.invariant-loop-i
-invariant-loop-i l = (l.i ≤ l.n) × (l.n ≡ length l.word / 2) × Left l.room l.i (pair_bytes (drop (2 * l.i) l.word)) l.initial.room 0 (pair_bytes l.word)
+abbrev pub invariant-loop-rest : goal.invariant-loop-rest
+invariant-loop-rest l = record {
+  digits : are_digits 16 l.rest ≡ true;
+  count : l.n + length l.rest / 2 ≡ length l.word / 2;
+  size : length l.room ≡ length l.initial.room;
+  bytes : sets l.room l.n (pair_bytes l.rest) ≡ sets l.initial.room 0 (pair_bytes l.word);
+}
 
-abbrev pub decreases-loop-i : goal.decreases-loop-i
-decreases-loop-i l = l.n - l.i
+abbrev pub decreases-loop-rest : goal.decreases-loop-rest
+decreases-loop-rest l = length l.rest

@@ -1,0 +1,2 @@
+-- Steps that answer a refusal.
+pub mod Steps

@@ -1,2 +1,0 @@
--- Laws that the proof of `same_at` cites.
-pub mod SameBytes

@@ -1,2 +1,0 @@
--- Texts in a row, as a loop writes them.
-pub mod Marked
