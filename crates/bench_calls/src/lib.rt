@@ -16,7 +16,7 @@ use cri::{Outcome, Refusal, Spans};
 fn refusal_packed(refusal: Refusal) -> u64
     ensures { result ≡ packed_refusal (number_of refusal.reason) refusal.place }
 {
-    refusal.reason as u64 + 256 * ((refusal.place % 65536) as u64)
+    u64::from(refusal.reason.number()) + 256 * ((refusal.place % 65536) as u64)
 }
 
 // Of a done call 256 times the length written; or the refusal.

@@ -13,6 +13,13 @@ ghost use Rattle.cbor_rows.specs.Rows.{nth_at, SpanInside};
 use cbor::{Span, span_at};
 use std::marker::Model;
 
+// Items that stand in a row: the position of the first, and how many there are.
+#[derive(Clone, Copy, Debug, PartialEq, Eq)]
+pub struct Row {
+    pub at: usize,
+    pub count: usize,
+}
+
 // Where the contents of items that stand in a row are: of those that are left.
 #[derive(Drop)]
 pub struct Spans<'a> {
@@ -47,15 +54,15 @@ impl<'a> Iterator for Spans<'a> {
     }
 }
 
-// Where the contents of the items are that stand in a row from a position on.
-pub fn spans_at(s: &[u8], at: usize, count: usize) -> Spans<'_>
-    requires { RowAt s.now at count }
-    ensures { result ≡ spans s.now at count }
+// Where the contents of the items of a row are.
+pub fn spans_at(s: &[u8], row: Row) -> Spans<'_>
+    requires { RowAt s.now row.at row.count }
+    ensures { result ≡ spans s.now row.at row.count }
 {
     Spans {
         link: s,
-        at,
-        left: count,
+        at: row.at,
+        left: row.count,
     }
 }
 
@@ -87,24 +94,24 @@ impl<'a> Iterator for Texts<'a> {
     }
 }
 
-// The contents of the items that stand in a row from a position on.
-pub fn texts_at(s: &[u8], at: usize, count: usize) -> Texts<'_>
-    requires { RowAt s.now at count }
-    ensures { result ≡ contents s.now at count }
+// The contents of the items of a row.
+pub fn texts_at(s: &[u8], row: Row) -> Texts<'_>
+    requires { RowAt s.now row.at row.count }
+    ensures { result ≡ contents s.now row.at row.count }
 {
     Texts {
         link: s,
-        spans: spans_at(s, at, count),
+        spans: spans_at(s, row),
     }
 }
 
-// The position after the first n items of those that stand in a row from a position on.
-pub fn after(s: &[u8], at: usize, n: usize) -> usize
-    requires { RowAt s.now at n }
-    ensures { result ≡ nth_at s.now at n }
+// The position after the items of a row.
+pub fn after(s: &[u8], row: Row) -> usize
+    requires { RowAt s.now row.at row.count }
+    ensures { result ≡ nth_at s.now row.at row.count }
 {
-    let mut next = at;
-    for span in spans_at(s, at, n) {
+    let mut next = row.at;
+    for span in spans_at(s, row) {
         next = span.start + span.length;
     }
     next

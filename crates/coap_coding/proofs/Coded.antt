@@ -1,7 +1,7 @@
 -- What an option is made of, and how long it is.
 use Prim.Native.Nat.{ℕ, min, zero, suc, ◌+◌, ◌*◌, ◌-◌, ◌≤◌, ◌<◌}
 use native.Mathlib.Omega.{arith}
-use mathlib.Core.Path.{◌≡◌}
+use mathlib.Core.Path.{◌≡◌, sym, subst}
 use mathlib.Core.List.{[], ◌∷◌, ◌++◌, append_assoc}
 use lib.ListN.{length, length-append}
 use lib.Dec.{ltb}
@@ -51,6 +51,9 @@ extension_most n s =
 module _ (delta : ℕ) (v : Bytes) where
   pub option_size : length (option_bytes delta v) ≡ 1 + length (extension delta) + length (extension (length v)) + length v
   option_size = omega (arith, option_length delta v)
+
+  pub option_size_of : {n : ℕ} → length v ≡ n → 1 + length (extension delta) + length (extension n) + n ≡ length (option_bytes delta v)
+  option_size_of {n} e = sym (subst (λ (k : ℕ). length (option_bytes delta v) ≡ 1 + length (extension delta) + length (extension k) + k) e option_size)
 
   pub option_pieces : {x y : ℕ} → x ≡ nibble delta → y ≡ nibble (length v)
       → ((x * 16 + y) ∷ []) ++ (extension delta ++ (extension (length v) ++ v)) ≡ option_bytes delta v

@@ -2,6 +2,7 @@
 #![tactic(auto)]
 
 ghost use Rattle.std.specs.Prelude.{◌+◌, ◌<◌, ◌≤◌, ◌≡◌, length};
+ghost use Rattle.rules.specs.Bytes.{Bytes};
 ghost use Rattle.rules.specs.Model.{limits};
 ghost use Rattle.rules.specs.Options.{nibble, extension, option_bytes};
 ghost use Rattle.rules.specs.Reader.{contents};
@@ -9,7 +10,7 @@ ghost use Rattle.rules.specs.Standing.{RowAt};
 ghost use Rattle.put.specs.Wrote.{Wrote};
 ghost use Rattle.coap_coding.specs.Coded.{Small, AllSmall, coded};
 
-use cbor_rows::texts_at;
+use cbor_rows::{Row, texts_at};
 use put::{put_byte, put_bytes};
 
 // ---- a delta or a length below 269: its nibble, and the byte that follows from 13 on
@@ -47,13 +48,12 @@ fn put_extension(room: &mut [u8], at: usize, n: usize) -> usize
 
 // ---- one option
 
-// How long an option is.
-#[tactic(auto, using(crate::proofs::Coded::extension_most, crate::proofs::Coded::option_size))]
-pub fn option_length(delta: usize, value: &[u8]) -> usize
-    requires { Small delta × Small (length value.now) }
-    ensures { result ≡ length (option_bytes delta value.now) }
+// How long an option is whose value has n bytes.
+#[tactic(auto, using(crate::proofs::Coded::extension_most, crate::proofs::Coded::option_size_of))]
+pub fn option_length(delta: usize, n: usize) -> usize
+    requires { Small delta × Small n }
+    ensures { (value : Bytes) → length value ≡ n → result ≡ length (option_bytes delta value) }
 {
-    let n = value.len();
     1 + extension_length(delta) + extension_length(n) + n
 }
 
@@ -74,37 +74,30 @@ pub fn put_option(room: &mut [u8], at: usize, delta: usize, value: &[u8]) -> usi
 // ---- texts in a row, each the value of an option: the first with a delta, the others with 0
 
 // How long the options are.
-pub fn row_length(s: &[u8], at: usize, count: usize, delta: usize) -> usize
-    requires row_at { RowAt s.now at count × AllSmall (contents s.now at count) }
+pub fn row_length(s: &[u8], row: Row, delta: usize) -> usize
+    requires row_at { RowAt s.now row.at row.count × AllSmall (contents s.now row.at row.count) }
     requires link_size { (length s.now ≤ limits.bytes) × Small delta }
-    ensures { result ≡ length (coded delta (contents s.now at count)) }
+    ensures { result ≡ length (coded delta (contents s.now row.at row.count)) }
 {
     let mut difference = delta;
     let mut total = 0;
-    for text in texts_at(s, at, count) {
-        total += option_length(difference, text);
+    for text in texts_at(s, row) {
+        total += option_length(difference, text.len());
         difference = 0;
     }
     total
 }
 
 // The options.
-pub fn put_row(
-    room: &mut [u8],
-    at: usize,
-    s: &[u8],
-    from: usize,
-    count: usize,
-    delta: usize,
-) -> usize
-    requires row_at { RowAt s.now from count × AllSmall (contents s.now from count) }
+pub fn put_row(room: &mut [u8], at: usize, s: &[u8], row: Row, delta: usize) -> usize
+    requires row_at { RowAt s.now row.at row.count × AllSmall (contents s.now row.at row.count) }
     requires small { Small delta }
-    requires count_in_bounds { at + length (coded delta (contents s.now from count)) ≤ length room.old }
-    ensures { Wrote room.old at (coded delta (contents s.now from count)) room.new result }
+    requires count_in_bounds { at + length (coded delta (contents s.now row.at row.count)) ≤ length room.old }
+    ensures { Wrote room.old at (coded delta (contents s.now row.at row.count)) room.new result }
 {
     let mut difference = delta;
     let mut o = at;
-    for text in texts_at(s, from, count) {
+    for text in texts_at(s, row) {
         o = put_option(room, o, difference, text);
         difference = 0;
     }

@@ -12,11 +12,12 @@ ghost use Rattle.coap_coding.specs.Coded.{Small};
 ghost use Rattle.coap_values.specs.Values.{HostAsks, TextsAsk, value_is, SmallValue};
 ghost use Rattle.coap_options.specs.Requests.{options_at, number_answer, opening_answer, AuthorityAsks, Asks, value_coded, number_after, DeltasAre, pieces_at, Stands, DeltasSmall};
 
+use cbor_rows::Row;
 use coap_coding::{option_length, put_option, put_row, row_length};
-use coap_values::{host_value, parameters, port_value, segments};
+use coap_values::{host_value, parameters, port_value, segments, value_in};
 use numbers::NAME_BYTES;
 use outcomes::Outcome;
-use reader::{AuthorityAt, Found, HostAt, OpeningAt, Row, Scheme};
+use reader::{AuthorityAt, Found, HostAt, OpeningAt, Scheme};
 use refusals::refuse;
 
 // ---- which options there are
@@ -74,7 +75,7 @@ fn value_length(delta: usize, value: Option<&[u8]>) -> usize
 {
     match value {
         None => 0,
-        Some(v) => option_length(delta, v),
+        Some(v) => option_length(delta, v.len()),
     }
 }
 
@@ -102,8 +103,8 @@ fn options_length(s: &[u8], request: Request, deltas: Deltas) -> usize
     let query = request.query;
     value_length(3, host)
         + value_length(deltas.port, port)
-        + row_length(s, path.at, path.count, deltas.path)
-        + row_length(s, query.at, query.count, deltas.query)
+        + row_length(s, path, deltas.path)
+        + row_length(s, query, deltas.query)
 }
 
 // All options, from the start of the room on.
@@ -118,8 +119,8 @@ fn put_options(room: &mut [u8], s: &[u8], request: Request, deltas: Deltas) -> u
     let query = request.query;
     let a = put_value(room, 0, 3, host);
     let b = put_value(room, a, deltas.port, port);
-    let c = put_row(room, b, s, path.at, path.count, deltas.path);
-    put_row(room, c, s, query.at, query.count, deltas.query)
+    let c = put_row(room, b, s, path, deltas.path);
+    put_row(room, c, s, query, deltas.query)
 }
 
 // ---- the call
@@ -143,9 +144,11 @@ fn requested(
 {
     let mut host_room = [0u8; NAME_BYTES];
     let mut port_room = [0u8; 2];
+    let host_length = host_value(&mut host_room, s, host, to_address);
+    let port_length = port_value(&mut port_room, port, to_port);
     let request = Request {
-        host: host_value(&mut host_room, s, host, to_address),
-        port: port_value(&mut port_room, port, to_port),
+        host: value_in(&host_room, host_length),
+        port: value_in(&port_room, port_length),
         path: segments(s, path),
         query: parameters(query),
     };

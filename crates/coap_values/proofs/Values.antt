@@ -7,7 +7,7 @@ use mathlib.Core.Path.{◌≡◌, refl, sym, ap, ◌∙◌}
 use mathlib.Core.Bool.{true, false}
 use mathlib.Core.List.{List, [], ◌∷◌, ◌++◌, map}
 use mathlib.Core.Option.{Option, none, some}
-use lib.ListN.{length, take}
+use lib.ListN.{length}
 use lib.Dec.{ltb, eqb}
 use borrow.Author.Tests.{ltb-true, eq-eqb, ne_eqb, lt-ltb, le-ltb}
 use Rattle.rules.specs.Bytes.{Bytes, part, big_endian, dot, same, concat, join}
@@ -21,16 +21,24 @@ use Rattle.rules.proofs.Tools.{cond_split, length_part}
 use Rattle.rules.proofs.RowWalk.{First, first, none_left}
 use Rattle.rules.proofs.Texts.{length_contents}
 use Rattle.put.specs.Wrote.{Wrote}
-use Rattle.put.proofs.Wrote.{Left, Next, left_all, wrote_taken}
+use Rattle.put.proofs.Wrote.{Left, Next, left_all, wrote_length, wrote_taken}
 use Rattle.put.proofs.Turns.{turn_next, turns_done}
-use Rattle.reader.specs.declared.Row.{Row}
+use Rattle.cbor_rows.specs.declared.Row.{Row}
 use Rattle.reader.specs.Answers.{slot_of}
-use Rattle.coap_values.specs.Values.{host_value, port_value, TextsAsk, RowOf}
+use Rattle.coap_values.specs.Values.{host_value, port_value, TextsAsk, Valued, RowOf}
 
 -- ---- a value that was written
 
-pub wrote_value : {a b w : Bytes} {v : Option Bytes} {k : ℕ} → some w ≡ v → length w ≤ length a → Wrote a 0 w b k → some (take k b) ≡ v
-wrote_value e h p = ap some (wrote_taken p h) ∙ e
+pub valued_none : {src : Bytes} {v : Option Bytes} → none ≡ v → Valued src Code.None v
+valued_none e = record { says = e; inside = tt; small = tt }
+
+pub valued_wrote : {a b w : Bytes} {v : Option Bytes} {k : ℕ} → some w ≡ v → length w ≤ length a → length w ≤ 255 → Wrote a 0 w b k → Valued b (Code.Some k) v
+valued_wrote {a} {b} {w} {v} {k} e h s p =
+    record {
+      says = ap some (wrote_taken p h) ∙ e;
+      inside = omega (arith, p.place, wrote_length p);
+      small = omega (arith, p.place);
+    }
 
 -- ---- Uri-Host
 

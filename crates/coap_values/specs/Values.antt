@@ -46,6 +46,20 @@ value_is = option_is (λ (b : Bor Bytes). b.now)
 abbrev pub SmallValue : Code.Option (Bor Bytes) → Type 0
 SmallValue v = IfSome v (λ (b : Bor Bytes). Small (length b.now))
 
+-- the value that was made as the first bytes of a room, by its length
+abbrev pub value_in : Bytes → Code.Option ℕ → Option Bytes
+value_in room = option_is (part room 0)
+
+-- it lies in the room
+abbrev pub Inside : Bytes → Code.Option ℕ → Type 0
+Inside room made = IfSome made (λ (n : ℕ). n ≤ length room)
+
+-- the room holds the value v at its start
+pub record Valued (room : Bytes) (made : Code.Option ℕ) (v : Option Bytes) : Type 0 where
+  pub says : value_in room made ≡ v
+  pub inside : Inside room made
+  pub small : IfSome made (λ (n : ℕ). Small n)
+
 -- the texts ts stand in a row
 pub record RowOf (bs : Bytes) (at n : ℕ) (ts : List Bytes) : Type 0 where
   pub says : contents bs at n ≡ ts

@@ -19,10 +19,10 @@ ghost use Rattle.components.specs.Content.{numbered_span, label_count, text_coun
 ghost use Rattle.components.specs.Layout.{authority_laid, opening_laid, texts_laid, components_laid, reading_laid, span_numbers, spans_after, TextsAt};
 
 pub use cbor::Span;
-use cbor_rows::spans_at;
+use cbor_rows::{Row, spans_at};
 use numbers::SPANS;
 pub use reader::Scheme;
-use reader::{AuthorityAt, Found, HostAt, OpeningAt, Row};
+use reader::{AuthorityAt, Found, HostAt, OpeningAt};
 use refusals::Refusal;
 
 // Where the labels, then the segments, then the parameters stand: start and length of each.
@@ -124,7 +124,7 @@ fn put_spans(room: &mut [usize], at: usize, s: &[u8], row: Row) -> usize
     ensures { Wrote room.old at (span_numbers (spans s.now row.at row.count)) room.new result }
 {
     let mut o = at;
-    for span in spans_at(s, row.at, row.count) {
+    for span in spans_at(s, row) {
         room[o] = span.start;
         room[o + 1] = span.length;
         o += 2;

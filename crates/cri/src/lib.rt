@@ -14,7 +14,7 @@ pub use cbor::Span;
 pub use components::{Authority, Components, Host, Opening, Scheme, Spans};
 pub use outcomes::Outcome;
 
-// Why and where something is refused; crates/refusals says when each reason is given, and `reason as u8` is its number.
+// Why and where something is refused; crates/refusals says when each reason is given, and `reason.number()` is its number.
 pub use refusals::{Reason, Refusal};
 
 // The largest input; rooms that are long enough for the text and for the options of every link; the numbers of Spans.

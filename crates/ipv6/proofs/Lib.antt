@@ -2,3 +2,4 @@ pub mod Groups
 pub mod ZeroRuns
 pub mod GroupTexts
 pub mod Mapped
+pub mod MappedRun

@@ -28,7 +28,7 @@ zeros_le (g ∷ gs) = cond_split (λ n. n ≤ suc (length gs)) (eqb g 0) (λ _. 
 
 -- how the definitions, and the walk, take one group more
 module _ (g : ℕ) (gs : List ℕ) where
-  ahead_more : (here : ℕ) → here ≡ zeros_ahead gs → ahead here g ≡ zeros_ahead (g ∷ gs)
+  pub ahead_more : (here : ℕ) → here ≡ zeros_ahead gs → ahead here g ≡ zeros_ahead (g ∷ gs)
   unfolding zeros_ahead
   ahead_more here e = ap (λ (n : ℕ). ahead n g) e
 

@@ -1,7 +1,9 @@
-// The words of a request, one after the other, and components given as words: for the program cri_lines alone, so a contract says only what its proofs need.
+// The words of a request, one after the other, and components given as words: for the program cri_lines alone.
 #![tactic(auto)]
 
-ghost use Rattle.std.specs.Prelude.{◌<◌, ◌≤◌, ◌^◌, length, IsTrue, IfSome};
+ghost use Rattle.std.specs.Prelude.{◌≡◌, ◌<◌, ◌≤◌, ◌^◌, ◌↔◌, IsSome, Ok, Err, [], length, take, drop, IsTrue, IfSome, IsOk, IfErr, MatchResult};
+ghost use Rattle.lines_input.specs.declared.Fault.TheVariants as FaultV;
+ghost use Rattle.lines_input.specs.Words.{word_end, word_of, left_of, number_in, port_in};
 
 use cbor::Span;
 use components::{Authority, Components, Host, Opening, Scheme, Spans};
@@ -40,6 +42,11 @@ impl From<HexError> for Fault {
 }
 
 impl From<NumberError> for Fault {
+    ghost use Rattle.std.specs.Prelude.{◌≡◌};
+    ghost use Rattle.lines_input.specs.declared.Fault.TheVariants as FaultV;
+
+    ghost from_gives = { λ e r. r ≡ FaultV.Number e };
+
     fn from(error: NumberError) -> Fault {
         Fault::Number(error)
     }
@@ -75,31 +82,52 @@ pub struct Words<'a> {
     ghost fits: { length rest.now < 2 ^ 64 },
 }
 
+// How many bytes stand before the first space.
+#[tactic(auto, unfolding(crate::specs::Words::word_end))]
+fn word_end(s: &[u8]) -> usize
+    ensures value { result ≡ word_end s.now }
+    ensures at_most { result ≤ length s.now }
+{
+    s.iter().take_while(|b| **b != b' ').count()
+}
+
 // The bytes before the first space, and the others.
 fn split_word(s: &[u8]) -> (&[u8], &[u8])
-    ensures { length result.1.now ≤ length s.now }
+    ensures word { result.0.now ≡ take (word_end s.now) s.now }
+    ensures left { result.1.now ≡ drop (word_end s.now) s.now }
+    ensures size { length result.0.now ≡ word_end s.now }
+    ensures at_most { length result.1.now ≤ length s.now }
 {
-    let end = s.iter().position(|b| *b == b' ').unwrap_or(s.len());
-    s.split_at(end)
+    s.split_at(word_end(s))
 }
 
 impl<'a> Words<'a> {
     // The first word of a line, and the others.
-    pub fn of(line: &'a [u8]) -> (&'a [u8], Words<'a>) {
+    pub fn of(line: &'a [u8]) -> (&'a [u8], Words<'a>)
+        ensures word { result.0.now ≡ take (word_end line.now) line.now }
+        ensures left { result.1.rest.now ≡ drop (word_end line.now) line.now }
+    {
         let (name, rest) = split_word(line);
         (name, Words { rest })
     }
 
     // The next word, and what is left after it; none where the line has ended.
     fn peek(&self) -> Option<(&'a [u8], &'a [u8])>
-        ensures { IfSome result (λ p. length p.1.now < length self.now.rest.now) }
+        ensures shorter { IfSome result (λ p. length p.1.now < length self.now.rest.now) }
+        ensures none { IsSome result ↔ (0 < length self.now.rest.now) }
+        ensures some { IfSome result (λ p. (length p.0.now ≡ word_end (drop 1 self.now.rest.now))
+            × (p.0.now ≡ take (word_end (drop 1 self.now.rest.now)) (drop 1 self.now.rest.now))
+            × (p.1.now ≡ drop (word_end (drop 1 self.now.rest.now)) (drop 1 self.now.rest.now))) }
     {
         let (_, rest) = self.rest.split_first()?;
         Some(split_word(rest))
     }
 
+    #[tactic(auto, unfolding(crate::specs::Words::word_of, crate::specs::Words::left_of))]
     fn word(&mut self) -> Result<&'a [u8], Fault>
-        ensures { length self.new.rest.now ≤ length self.old.rest.now }
+        ensures word { MatchResult result (λ w. word_of self.old.rest.now ≡ Ok w.now) (λ e. word_of self.old.rest.now ≡ Err e) }
+        ensures left { self.new.rest.now ≡ left_of self.old.rest.now }
+        ensures at_most { length self.new.rest.now ≤ length self.old.rest.now }
     {
         let (word, rest) = self.peek().ok_or(Fault::Missing)?;
         if word.is_empty() {
@@ -124,13 +152,18 @@ impl<'a> Words<'a> {
     }
 
     pub fn number(&mut self) -> Result<u64, Fault>
-        ensures { length self.new.rest.now ≤ length self.old.rest.now }
+        ensures value { result ≡ number_in (word_of self.old.rest.now) }
+        ensures left { self.new.rest.now ≡ left_of self.old.rest.now }
+        ensures at_most { length self.new.rest.now ≤ length self.old.rest.now }
     {
         Ok(words::decimal(self.word()?)?)
     }
 
     // A number of 16 bits.
-    pub fn port(&mut self) -> Result<u16, Fault> {
+    pub fn port(&mut self) -> Result<u16, Fault>
+        ensures value { result ≡ port_in (number_in (word_of self.old.rest.now)) }
+        ensures left { self.new.rest.now ≡ left_of self.old.rest.now }
+    {
         u16::try_from(self.number()?).map_err(|_| Fault::PortTooLarge)
     }
 
@@ -147,7 +180,10 @@ impl<'a> Words<'a> {
     }
 
     // No word is left.
-    pub fn finish(&self) -> Result<(), Fault> {
+    pub fn finish(&self) -> Result<(), Fault>
+        ensures accepted { IsOk result ↔ (self.now.rest.now ≡ []) }
+        ensures refused { IfErr result (λ e. e ≡ FaultV.TooMany) }
+    {
         if self.rest.is_empty() {
             Ok(())
         } else {

@@ -110,9 +110,9 @@ pub fn add_components(out: &mut Output, bytes: &[u8], spans: &Spans, c: Componen
 
 // A refusal: its number, and of 1 to 8 its place.
 pub fn add_refusal(out: &mut Output, refusal: Refusal) {
-    let number = refusal.reason as u8;
+    let number = refusal.reason.number();
     out.number(u64::from(number));
-    if number <= Reason::Base as u8 {
+    if number <= Reason::Base.number() {
         write!(out, " at {}", refusal.place);
     }
 }

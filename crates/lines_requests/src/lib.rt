@@ -11,7 +11,7 @@ use refusals::Refusal;
 fn number_of(verdict: Result<(), Refusal>) -> u8 {
     match verdict {
         Ok(()) => 0,
-        Err(refusal) => refusal.reason as u8,
+        Err(refusal) => refusal.reason.number(),
     }
 }
 

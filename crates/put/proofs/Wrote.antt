@@ -13,7 +13,7 @@ use Rattle.put.specs.Wrote.{Wrote}
 
 -- ---- pieces one after the other
 
-sets_append : (v w l : Bytes) (i : ℕ) → sets (sets l i v) (i + length v) w ≡ sets l i (v ++ w)
+pub sets_append : (v w l : Bytes) (i : ℕ) → sets (sets l i v) (i + length v) w ≡ sets l i (v ++ w)
 sets_append [] w l i = rw add-zero
 sets_append (a ∷ v) w l i = rw (add-suc, ← suc-add) (sets_append v w (set l i a) (suc i))
 

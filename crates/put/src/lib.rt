@@ -37,7 +37,8 @@ fn copy(room: &mut [u8], text: &[u8])
             }
         }
         4..8 => copy_ends::<4>(room, text),
-        8..=16 => copy_ends::<8>(room, text),
+        8..16 => copy_ends::<8>(room, text),
+        16..=32 => copy_ends::<16>(room, text),
         _ => room.copy_from_slice(text),
     }
 }

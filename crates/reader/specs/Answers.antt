@@ -11,7 +11,7 @@ use Rattle.rules.specs.Code.{option_is}
 use Rattle.refusals.specs.declared.Refusal.{Refusal}
 use Rattle.refusals.specs.Answers.{refusal_is}
 use Rattle.cbor.specs.declared.Span.{Span}
-use Rattle.reader.specs.declared.Row.{Row}
+use Rattle.cbor_rows.specs.declared.Row.{Row}
 use Rattle.reader.specs.declared.HostAt.{HostAt}
 use Rattle.reader.specs.declared.HostAt.TheVariants as HostAtV
 use Rattle.reader.specs.declared.Names.{Names}

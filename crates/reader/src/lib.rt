@@ -14,6 +14,7 @@ ghost use Rattle.texts.specs.Answers.{sort_is};
 ghost use Rattle.reader.specs.Answers.{unset_before, set_before, slot_is, fragment_is, names_is, scheme_of, authority_of, read_host, opening_of, opened_is, first_is, found_of, read_rest};
 
 use cbor::{Head, Kind, Kinds, Span, head_at};
+use cbor_rows::Row;
 use numbers::{
     AUTHORITY_ITEMS, BYTES, DISCARD, DISCARD_ITEMS, ITEMS, LABELS, PARAMETERS, PORT, SEGMENTS,
 };
@@ -22,13 +23,6 @@ use schemes::{scheme_id, scheme_number};
 use texts::{Sort, scheme_body, text_body};
 
 // ---- answers
-
-// Texts that stand in a row: the position of the first, and how many there are.
-#[derive(Clone, Copy, Debug, PartialEq, Eq)]
-pub struct Row {
-    pub at: usize,
-    pub count: usize,
-}
 
 // Where an address stands; or the labels.
 #[derive(Clone, Copy, Debug, PartialEq, Eq)]
@@ -163,11 +157,11 @@ fn text_at(s: &[u8], at: usize, sort: Sort) -> Result<usize, Refusal>
 }
 
 // Texts that stand in a row: the position after them.
-fn row_at(s: &[u8], at: usize, count: usize, sort: Sort) -> Result<usize, Refusal>
-    ensures { answer_is (λ n. n) result ≡ R.read_row (sort_is sort) s.now at count }
+fn row_at(s: &[u8], row: Row, sort: Sort) -> Result<usize, Refusal>
+    ensures { answer_is (λ n. n) result ≡ R.read_row (sort_is sort) s.now row.at row.count }
 {
-    let mut here = at;
-    for i in 0..count {
+    let mut here = row.at;
+    for i in 0..row.count {
         here = text_at(s, here, sort)?;
     }
     Ok(here)
@@ -199,18 +193,17 @@ fn array_body(
     if head.value < low || high < head.value {
         refuse!(Limit, at);
     }
-    let count = head.value as usize;
-    let next = row_at(s, head.next, count, sort)?;
-    Ok((
-        Row {
-            at: head.next,
-            count,
-        },
-        next,
-    ))
+    let row = Row {
+        at: head.next,
+        count: head.value as usize,
+    };
+    let next = row_at(s, row, sort)?;
+    Ok((row, next))
 }
 
-// An array of low to high texts, or null, or nothing where no item is left.
+// An array of low to high texts, or null, or nothing where no item is left. It becomes a part of its caller, so that a path or a query that is not
+// there takes no call.
+#[inline(always)]
 fn array_at(
     s: &[u8],
     at: usize,
@@ -381,15 +374,16 @@ fn labels_host(
 {
     let after = label_body(s, at, 0, head)?;
     let names = names_at(s, after, left, 1)?;
-    if !texts::name_rule(s, at, names.count) {
+    let labels = Row {
+        at,
+        count: names.count,
+    };
+    if !texts::name_rule(s, labels) {
         refuse!(Rule, start);
     }
     Ok(AuthorityAt {
         at: start,
-        host: HostAt::Labels(Row {
-            at,
-            count: names.count,
-        }),
+        host: HostAt::Labels(labels),
         port: names.port,
         next: names.next,
     })

@@ -1,2 +1,4 @@
 -- What a refusal and a verdict say.
 pub mod Answers
+-- The text that they print.
+pub mod Texts

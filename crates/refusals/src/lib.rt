@@ -1,10 +1,14 @@
 // A refusal, as every call tells it: why, and where.
 #![tactic(auto)]
 
+ghost use Rattle.std.specs.Prelude.{◌≡◌, Some};
+ghost use Rattle.refusals.specs.Answers.{number_of};
+ghost use Rattle.refusals.specs.Texts.{name_of, refusal_text};
+
 use std::error::Error;
 use std::fmt;
 
-// Why something is refused, by its number (docs/RULES.md, 3.2), which `as u8` gives.
+// Why something is refused, by its number (docs/RULES.md, 3.2).
 #[derive(Clone, Copy, Debug, PartialEq, Eq)]
 pub enum Reason {
     // The bytes end inside the array; empty input.
@@ -35,8 +39,19 @@ pub enum Reason {
     None = 18,
 }
 
+impl Reason {
+    // The number that docs/RULES.md gives it.
+    pub fn number(self) -> u8
+        ensures { result ≡ number_of self }
+    {
+        self as u8
+    }
+}
+
 // The name that docs/RULES.md gives the number.
 impl fmt::Display for Reason {
+    ghost output = { λ reason. Some (name_of reason) };
+
     fn fmt<W: fmt::Write>(&self, f: &mut fmt::Formatter<W>) -> fmt::Result {
         f.write_str(match self {
             Reason::Cut => "CUT",
@@ -64,8 +79,10 @@ pub struct Refusal {
 }
 
 impl fmt::Display for Refusal {
+    ghost output = { λ refusal. Some (refusal_text refusal) };
+
     fn fmt<W: fmt::Write>(&self, f: &mut fmt::Formatter<W>) -> fmt::Result {
-        let number = self.reason as u8;
+        let number = self.reason.number();
         let reason = self.reason;
         let place = self.place;
         write!(f, "refused with {number}, {reason}, at byte {place}")

@@ -23,7 +23,7 @@ use Rattle.rules.proofs.RowLengths.{texts_count, texts_append, normal_short, nor
 use Rattle.cbor_rows.specs.Rows.{nth_at}
 use Rattle.cbor_rows.proofs.Rows.{take_contents}
 use Rattle.cbor.specs.declared.Span.{Span}
-use Rattle.reader.specs.declared.Row.{Row}
+use Rattle.cbor_rows.specs.declared.Row.{Row}
 use Rattle.reader.specs.declared.Scheme.{Scheme}
 use Rattle.reader.specs.declared.Scheme.TheVariants as SchemeV
 use Rattle.reader.specs.Answers.{slot_of, scheme_of}

@@ -16,8 +16,9 @@ ghost use Rattle.resolver_parts.specs.Written.{BothSmall, path_head, path_items,
 
 use cbor::{Kind, Span};
 use cbor_heads::{head_length, put_head};
+use cbor_rows::Row;
 use put::put_bytes;
-use reader::{Found, OpeningAt, Row};
+use reader::{Found, OpeningAt};
 
 // An input that was read, and where everything stands in it.
 #[derive(Clone, Copy)]
@@ -170,11 +171,13 @@ fn without_last(s: &[u8], row: RowSpan, k: u64) -> RowSpan
     if k == 0 {
         return row;
     }
-    let start = row.span.start;
-    let count = row.count.saturating_sub(k as usize);
+    let kept = Row {
+        at: row.span.start,
+        count: row.count.saturating_sub(k as usize),
+    };
     RowSpan {
-        span: between(start, cbor_rows::after(s, start, count)),
-        count,
+        span: between(kept.at, cbor_rows::after(s, kept)),
+        count: kept.count,
     }
 }
 

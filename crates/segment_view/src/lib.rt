@@ -16,7 +16,7 @@ ghost use Rattle.refusals.specs.Answers.{answer_is, verdict_is};
 ghost use Rattle.segment_view.specs.Shown.{PartOf};
 
 use cbor::{Span, span_at};
-use reader::Row;
+use cbor_rows::Row;
 use refusals::{Refusal, refuse};
 
 // Where the content of the n-th item stands, from 0, of those that stand in a row from a position on.
@@ -24,7 +24,7 @@ fn nth_span(s: &[u8], at: usize, n: usize) -> Span
     requires { RowAt s.now at (suc n) }
     ensures { span_is result ≡ span_at s.now (nth_at s.now at n) }
 {
-    span_at(s, cbor_rows::after(s, at, n))
+    span_at(s, cbor_rows::after(s, Row { at, count: n }))
 }
 
 // The n-th segment of a path.

@@ -11,7 +11,7 @@ ghost use Rattle.cbor.specs.Heads.{head_is};
 ghost use Rattle.texts.specs.Answers.{scheme_form, sort_is, dotted_length};
 
 use cbor::{Head, Span};
-use cbor_rows::texts_at;
+use cbor_rows::{Row, texts_at};
 use numbers::{LABEL_BYTES, NAME_BYTES, SCHEME_BYTES, TEXT_BYTES};
 use refusals::{Refusal, refuse};
 
@@ -138,11 +138,11 @@ pub fn scheme_body(s: &[u8], at: usize, head: Head) -> Result<usize, Refusal>
 }
 
 // The length of labels that were accepted, each with a dot after it.
-fn dotted_length(s: &[u8], at: usize, count: usize) -> usize
-    requires { (RowAt s.now at count) × (at ≤ length s.now) }
-    ensures { result ≡ dotted_length (contents s.now at count) }
+fn dotted_length(s: &[u8], row: Row) -> usize
+    requires { (RowAt s.now row.at row.count) × (row.at ≤ length s.now) }
+    ensures { result ≡ dotted_length (contents s.now row.at row.count) }
 {
-    texts_at(s, at, count).map(|label| label.len() + 1).sum()
+    texts_at(s, row).map(|label| label.len() + 1).sum()
 }
 
 // A digit from the least one on.
@@ -169,17 +169,17 @@ fn octet(text: &[u8]) -> bool
 }
 
 // Whether labels that were accepted would print as an IPv4 address.
-fn looks_ipv4(s: &[u8], at: usize, count: usize) -> bool
-    requires { RowAt s.now at count }
-    ensures { result ≡ looks_ipv4 (contents s.now at count) }
+fn looks_ipv4(s: &[u8], row: Row) -> bool
+    requires { RowAt s.now row.at row.count }
+    ensures { result ≡ looks_ipv4 (contents s.now row.at row.count) }
 {
-    count == 4 && texts_at(s, at, count).all(octet)
+    row.count == 4 && texts_at(s, row).all(octet)
 }
 
 // The rules over all labels, which were accepted one by one.
-pub fn name_rule(s: &[u8], at: usize, count: usize) -> bool
-    requires { (RowAt s.now at count) × (at ≤ length s.now) }
-    ensures { result ≡ name_rule (contents s.now at count) }
+pub fn name_rule(s: &[u8], row: Row) -> bool
+    requires { (RowAt s.now row.at row.count) × (row.at ≤ length s.now) }
+    ensures { result ≡ name_rule (contents s.now row.at row.count) }
 {
-    dotted_length(s, at, count) <= DOTTED_BYTES && !looks_ipv4(s, at, count)
+    dotted_length(s, row) <= DOTTED_BYTES && !looks_ipv4(s, row)
 }

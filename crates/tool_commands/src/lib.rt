@@ -1,5 +1,5 @@
 // The commands of cri_tool. What is asked for goes to standard output; a refusal that was not asked for, and what is wrong with the arguments,
-// to standard error. Each command makes a call of the library or two, with room enough for every answer; after a refused base a further one.
+// to standard error. Each command makes one call of the library, or a few, with room enough for every answer; after a refused base a further one.
 #![tactic(auto)]
 
 use cri::{BYTES, OPTIONS_ROOM, Reason, Refusal, SPANS, TEXT_ROOM};

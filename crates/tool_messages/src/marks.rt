@@ -40,9 +40,8 @@ fn say_row_at(out: &mut Output, s: &[u8], offset: usize)
 }
 
 // The row of a byte, which is marked, with the row before and the row after. Where the input ends at the place, the mark stands after its last byte.
-pub fn say_marked(out: &mut Output, s: &[u8], place: usize)
-    requires { place ≤ length s.now }
-{
+pub fn say_marked(out: &mut Output, s: &[u8], place: usize) {
+    let place = place.min(s.len());
     let i = place % ROW;
     let offset = place - i;
     if ROW <= offset {

@@ -36,7 +36,7 @@ fn meaning(reason: Reason) -> &'static str {
 
 // "refused with 4, LIMIT: .."
 pub fn say_reason(out: &mut Output, reason: Reason) {
-    let number = reason as u8;
+    let number = reason.number();
     writeln!(out, "refused with {number}, {reason}: {}", meaning(reason));
 }
 
@@ -48,7 +48,7 @@ fn say_place(out: &mut Output, s: &[u8], place: usize) {
         ""
     };
     writeln!(out, "place     byte {place}{ended}");
-    say_marked(out, s, place.min(s.len()));
+    say_marked(out, s, place);
 }
 
 // Which argument is refused, why and where. The reader's reasons, 1 to 7, have a place.
@@ -56,7 +56,7 @@ pub fn say_refusal(out: &mut Output, argument: &str, s: &[u8], refusal: Refusal)
     let Refusal { reason, place } = refusal;
     write!(out, "{argument} is ");
     say_reason(out, reason);
-    if reason as u8 <= Reason::Tail as u8 {
+    if reason.number() <= Reason::Tail.number() {
         say_place(out, s, place);
     }
 }

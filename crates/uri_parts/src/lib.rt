@@ -13,9 +13,10 @@ ghost use Rattle.uri_parts.specs.Pieces.{scheme_piece, host_piece, port_piece, p
 
 use addresses::{address_length, put_address};
 use cbor::Span;
+use cbor_rows::Row;
 use numeral::{decimal_length, put_decimal};
 use put::{put_byte, put_bytes};
-use reader::{HostAt, Row, Scheme};
+use reader::{HostAt, Scheme};
 use schemes::{name_length, put_name};
 use uri_escape::{Class, escaped_length, put_escaped};
 use uri_rows::{put_row, row_length};
@@ -61,7 +62,7 @@ pub fn host_length(s: &[u8], host: HostAt) -> usize
 {
     match host {
         HostAt::Address(span) => 1 + address_length(span.of(s)),
-        HostAt::Labels(row) => row_length(s, row.at, row.count, Class::Label),
+        HostAt::Labels(row) => row_length(s, row, Class::Label),
     }
 }
 
@@ -76,7 +77,7 @@ pub fn put_host(room: &mut [u8], at: usize, s: &[u8], host: HostAt) -> usize
             let p = put_byte(room, at, b'/');
             put_address(room, p, span.of(s))
         }
-        HostAt::Labels(row) => put_row(room, at, s, row.at, row.count, Class::Label, b'/', b'.'),
+        HostAt::Labels(row) => put_row(room, at, s, row, Class::Label, b'/', b'.'),
     }
 }
 
@@ -117,7 +118,7 @@ pub fn path_length(s: &[u8], path: Option<Row>) -> usize
 {
     match path {
         None => 1,
-        Some(row) => row_length(s, row.at, row.count, Class::Segment),
+        Some(row) => row_length(s, row, Class::Segment),
     }
 }
 
@@ -129,7 +130,7 @@ pub fn put_path(room: &mut [u8], at: usize, s: &[u8], path: Option<Row>) -> usiz
 {
     match path {
         None => put_byte(room, at, b'/'),
-        Some(row) => put_row(room, at, s, row.at, row.count, Class::Segment, b'/', b'/'),
+        Some(row) => put_row(room, at, s, row, Class::Segment, b'/', b'/'),
     }
 }
 
@@ -141,7 +142,7 @@ pub fn query_length(s: &[u8], query: Option<Row>) -> usize
 {
     match query {
         None => 0,
-        Some(row) => row_length(s, row.at, row.count, Class::Parameter),
+        Some(row) => row_length(s, row, Class::Parameter),
     }
 }
 
@@ -153,7 +154,7 @@ pub fn put_query(room: &mut [u8], at: usize, s: &[u8], query: Option<Row>) -> us
 {
     match query {
         None => at,
-        Some(row) => put_row(room, at, s, row.at, row.count, Class::Parameter, b'?', b'&'),
+        Some(row) => put_row(room, at, s, row, Class::Parameter, b'?', b'&'),
     }
 }
 

@@ -93,7 +93,7 @@ fn further_items(path: Option<usize>, query: Option<usize>, fragment: Option<Spa
     }
 }
 
-// ---- an encoding in the making: each piece is added at its end. A piece that would make it longer than the largest, or of which a text lies
+// ---- an encoding while it is made: each piece is added at its end. A piece that would make it longer than the largest, or of which a text lies
 // outside the lent bytes, is refused
 
 // The array begins with the bytes that are made, and `end` is how many they are.

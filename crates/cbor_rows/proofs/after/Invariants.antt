@@ -3,4 +3,4 @@ use Rattle.cbor_rows.proofs.RowEnds.{Walked}
 use Rattle.cbor_rows.proofs.after.Given as goal
 
 abbrev pub invariant-loop-span : goal.invariant-loop-span
-invariant-loop-span l = Walked l.s l.at l.n l.next l.span-iterator
+invariant-loop-span l = Walked l.s l.fn.row.at l.fn.row.count l.next l.span-iterator

@@ -8,7 +8,7 @@ use Rattle.cbor_rows.proofs.RowSpans.{inside_row}
 use Rattle.cbor_rows.proofs.texts_at.Goals as goal
 
 pub invariant_of-result : goal.invariant_of-result
-invariant_of-result c = subst (All (SpanInside c.args.s.now)) (sym c.spans_at.ensures) (inside_row c.args.s.now c.args.at c.args.count c.requires)
+invariant_of-result c = subst (All (SpanInside c.args.s.now)) (sym c.spans_at.ensures) (inside_row c.args.s.now c.args.row.at c.args.row.count c.requires)
 
 pub returns : goal.returns
 unfolding contents

@@ -6,4 +6,4 @@ use Rattle.coap_coding.proofs.put_row.Given as goal
 
 abbrev pub invariant-loop-text : goal.invariant-loop-text
 invariant-loop-text l =
-    AllSmall l.text-iterator × Small l.difference × Left l.room l.o (coded l.difference l.text-iterator) l.initial.room l.at (coded l.delta (contents l.s l.from l.count))
+    AllSmall l.text-iterator × Small l.difference × Left l.room l.o (coded l.difference l.text-iterator) l.initial.room l.at (coded l.delta (contents l.s l.fn.row.at l.fn.row.count))

@@ -7,4 +7,4 @@ use Rattle.coap_coding.proofs.row_length.Given as goal
 
 abbrev pub invariant-loop-text : goal.invariant-loop-text
 invariant-loop-text l =
-    AllSmall l.text-iterator × Small l.difference × Count l.total (coded l.difference l.text-iterator) (length (coded l.delta (contents l.s l.at l.count)))
+    AllSmall l.text-iterator × Small l.difference × Count l.total (coded l.difference l.text-iterator) (length (coded l.delta (contents l.s l.fn.row.at l.fn.row.count)))

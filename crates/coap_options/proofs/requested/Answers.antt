@@ -19,12 +19,13 @@ asked d =
 
 known_at : (d : After-deltas_of-deltas)
     → Known d.args.s.now
-    (record { host = d.host_value.result; port = d.port_value.result; path = d.segments.result; query = d.parameters.result }) d.deltas_of-deltas.result
+    (record { host = d.value_in.result; port = d.value_in-2.result; path = d.segments.result; query = d.parameters.result }) d.deltas_of-deltas.result
     (asked d)
 known_at d =
     let a = d.args in
     known _ _ _ d.deltas_of-deltas.ensures (host_of a.host) a.port (slot_of a.path) (slot_of a.query) a.to_address.now a.to_port
-    d.host_value.ensures.value d.host_value.ensures.small d.port_value.ensures.value d.port_value.ensures.small d.segments.ensures
+    (d.value_in.ensures.value ∙ d.host_value-host_length.ensures.says) d.value_in.ensures.small
+    (d.value_in-2.ensures.value ∙ d.port_value-port_length.ensures.says) d.value_in-2.ensures.small d.segments.ensures
     (d.parameters.ensures a.s.now d.requires.texts_ask.1)
 
 -- how long the options are, where they are measured

@@ -6,4 +6,4 @@ use Rattle.texts.specs.Answers.{sort_is}
 use Rattle.reader.proofs.row_at.Given as goal
 
 abbrev pub invariant-loop-i : goal.invariant-loop-i
-invariant-loop-i l = read_row (sort_is l.sort) l.s l.here (l.count - l.i) ≡ read_row (sort_is l.sort) l.s l.at l.count
+invariant-loop-i l = read_row (sort_is l.sort) l.s l.here (l.fn.row.count - l.i) ≡ read_row (sort_is l.sort) l.s l.fn.row.at l.fn.row.count

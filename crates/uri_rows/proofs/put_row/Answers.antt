@@ -7,15 +7,15 @@ use Rattle.uri_rows.proofs.Marked.{row_none, row_some}
 use Rattle.uri_rows.proofs.MarkedTurns.{marked_next, marked_done}
 use Rattle.uri_rows.proofs.put_row.Goals as goal
 
-pub returns-then-count-eq0 : goal.returns-then-count-eq0
-returns-then-count-eq0 c =
+pub returns-then-row-eq0 : goal.returns-then-row-eq0
+returns-then-row-eq0 c =
     let a = c.args in
-    wrote_as (sym (row_none (class_is a.class) a.mark a.delimiter a.s.now a.from a.count c.if-count-eq0.true)) c.put_byte.ensures
+    wrote_as (sym (row_none (class_is a.class) a.mark a.delimiter a.s.now a.row.at a.row.count c.if-row-eq0.true)) c.put_byte.ensures
 
 pub loop-text-init : goal.loop-text-init
 loop-text-init c =
     let a = c.args in
-    rw (c.into_iter-text-iterator.ensures.into_iter_gives ∙ c.texts_at-text-items.ensures, row_some (class_is a.class) a.mark a.delimiter a.s.now a.from a.count c.if-count-eq0.false) left_all
+    rw (c.into_iter-text-iterator.ensures.into_iter_gives ∙ c.texts_at-text-items.ensures, row_some (class_is a.class) a.mark a.delimiter a.s.now a.row.at a.row.count c.if-row-eq0.false) left_all
 
 pub put_byte-p-requires : goal.put_byte-p-requires
 put_byte-p-requires c = omega (arith, next_room (marked_next _ _ _ c.in-Some.ensures.steps c.loop-text.invariant) c.requires.count_in_bounds)

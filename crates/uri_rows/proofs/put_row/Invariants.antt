@@ -10,4 +10,4 @@ use Rattle.uri_rows.proofs.put_row.Given as goal
 
 abbrev pub invariant-loop-text : goal.invariant-loop-text
 invariant-loop-text l =
-    Left l.room l.o (marked_each (class_is l.class) l.before l.delimiter l.text-iterator) l.initial.room l.at (l.mark ∷ join l.delimiter (map (escape (class_is l.class)) (contents l.s l.from l.count)))
+    Left l.room l.o (marked_each (class_is l.class) l.before l.delimiter l.text-iterator) l.initial.room l.at (l.mark ∷ join l.delimiter (map (escape (class_is l.class)) (contents l.s l.fn.row.at l.fn.row.count)))

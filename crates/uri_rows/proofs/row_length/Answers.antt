@@ -12,16 +12,16 @@ use Rattle.uri_rows.proofs.MarkedTurns.{marked_count, marked_counted}
 use Rattle.uri_rows.proofs.row_length.Goals as goal
 use Rattle.uri_rows.proofs.row_length.Goals.{In-Some}
 
-pub returns-then-count-eq0 : goal.returns-then-count-eq0
-returns-then-count-eq0 c mark delimiter =
+pub returns-then-row-eq0 : goal.returns-then-row-eq0
+returns-then-row-eq0 c mark delimiter =
     let a = c.args in
-    sym (ap length (row_none (class_is a.class) mark delimiter a.s.now a.at a.count c.if-count-eq0.true))
+    sym (ap length (row_none (class_is a.class) mark delimiter a.s.now a.row.at a.row.count c.if-row-eq0.true))
 
 -- the total with this text is no more than the whole, which is bounded
 fits : (c : In-Some) → c.loop-text.total + (1 + length (escape (class_is c.args.class) c.in-Some.text.now)) ≤ 3 * length c.args.s.now
 fits c =
     let a = c.args in
-    omega (arith, (marked_count (class_is a.class) 0 0 c.in-Some.ensures.steps c.loop-text.invariant).sum, marked_most (class_is a.class) 0 0 a.s.now a.at a.count c.requires.row_at)
+    omega (arith, (marked_count (class_is a.class) 0 0 c.in-Some.ensures.steps c.loop-text.invariant).sum, marked_most (class_is a.class) 0 0 a.s.now a.row.at a.row.count c.requires.row_at)
 
 pub escaped_length-requires : goal.escaped_length-requires
 escaped_length-requires c = omega (arith, fits c, escape_least (class_is c.args.class) c.in-Some.text.now, c.requires.link_size)
@@ -40,5 +40,5 @@ returns c mark delimiter =
     let a = c.args in
     let k = class_is a.class in
     marked_counted k 0 0 c.in-None.ensures.steps.0 c.loop-text.invariant
-    ∙ marked_length k 0 0 mark delimiter (contents a.s.now a.at a.count)
-    ∙ ap length (row_some k mark delimiter a.s.now a.at a.count c.if-count-eq0.false)
+    ∙ marked_length k 0 0 mark delimiter (contents a.s.now a.row.at a.row.count)
+    ∙ ap length (row_some k mark delimiter a.s.now a.row.at a.row.count c.if-row-eq0.false)

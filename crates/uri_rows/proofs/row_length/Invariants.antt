@@ -7,4 +7,4 @@ use Rattle.uri_rows.proofs.Marked.{marked_each}
 use Rattle.uri_rows.proofs.row_length.Given as goal
 
 abbrev pub invariant-loop-text : goal.invariant-loop-text
-invariant-loop-text l = Count l.total (marked_each (class_is l.class) 0 0 l.text-iterator) (length (marked_each (class_is l.class) 0 0 (contents l.s l.at l.count)))
+invariant-loop-text l = Count l.total (marked_each (class_is l.class) 0 0 l.text-iterator) (length (marked_each (class_is l.class) 0 0 (contents l.s l.fn.row.at l.fn.row.count)))
