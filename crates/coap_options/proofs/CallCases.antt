@@ -18,8 +18,9 @@ use Rattle.rules.specs.Valid.{If, GoodTexts, GoodHost, GoodOpening}
 use Rattle.rules.specs.Options.{options, options_from, coap_scheme}
 use Rattle.rules.specs.Calls.{absent, options_call}
 use Rattle.rules.specs.Standing.{HostStands, OpeningStands, TextsStand}
-use Rattle.rules.proofs.Tools.{each_map, never}
+use Rattle.rules.proofs.Tools.{each_map, never, within_low}
 use Rattle.rules.proofs.Steps.{ok_at, bind_ok}
+use Rattle.rules.proofs.Texts.{length_contents}
 use Rattle.rules.proofs.Reading.{meaning_said, canonical}
 use Rattle.rules.proofs.Standing.{read_size, stands}
 use Rattle.rules.proofs.Absolutes.{read_absolute_lem}
@@ -34,7 +35,7 @@ use Rattle.reader.specs.declared.OpeningAt as OpeningT
 use Rattle.reader.specs.declared.OpeningAt.TheVariants as OpeningV
 use Rattle.reader.specs.Answers.{text_of, port_of, opening_of}
 use Rattle.coap_values.specs.Values.{HostAsks, TextsAsk}
-use Rattle.coap_options.specs.Requests.{options_at, default_answer, opening_answer, AuthorityAsks, OpeningAsks, Asks}
+use Rattle.coap_options.specs.Requests.{options_at, default_answer, opening_answer, HasLabel, AuthorityAsks, OpeningAsks, Asks}
 
 -- ---- what the call answers
 
@@ -122,10 +123,12 @@ pub full_asks : (bs : Bytes) {o : OpeningAt} {s : SchemeAt} {a : AuthorityAt} �
 full_asks bs e h = rw e at h
 
 module _ (bs : Bytes) where
-  host_asks : (h : HostAt) → HostStands bs h → GoodHost (said_host bs h) → HostAsks bs h
-  host_asks (address_at at n) h g = (address_at_lem bs at n h g, (address_short _ g).size)
-  host_asks (labels_at at n) h g =
-      (h.each, (labels_short (contents bs at n) g.texts.each g.name).size)
+  host_asks : (h : HostAt) → HostStands bs h → GoodHost (said_host bs h) → HostAsks bs h × HasLabel h
+  host_asks (address_at at n) h g = ((address_at_lem bs at n h g, (address_short _ g).size), tt)
+  host_asks (labels_at at n) h g = (
+    (h.each, (labels_short (contents bs at n) g.texts.each g.name).size),
+    omega (arith, within_low 1 8 (length (contents bs at n)) g.texts.count, length_contents bs at n),
+  )
 
   opening_asks : (o : OpeningAt) → OpeningStands bs o → GoodOpening (said_opening bs o) → OpeningAsks bs o
   opening_asks (discard_at k) h g = tt

@@ -1,10 +1,10 @@
 -- The options of what was read, piece by piece as they are written, and what is known of where they stand in an accepted input.
-use Rattle.std.specs.Prelude.{ℕ, ◌-◌, ◌≤◌, ◌≡◌, Bool, cond, [], ◌++◌, map, length}
+use Rattle.std.specs.Prelude.{ℕ, ◌-◌, ◌≤◌, ◌<◌, ◌≡◌, Bool, cond, [], ◌++◌, map, length}
 use Rattle.std.proofs.Math.Option.{Option, none, some, get_or}
 use Rattle.rules.specs.Bytes.{Bytes}
 use Rattle.rules.specs.Result.{Res, refused, ok, BASE, COAP}
 use Rattle.rules.specs.Model.{limits, elements, normal_path}
-use Rattle.rules.specs.Reader.{contents, Slot, unset, set, HostAt, AuthorityAt, no_scheme, number_at, name_at, OpeningAt, discard_at, discard_all_at, full_at, Found}
+use Rattle.rules.specs.Reader.{contents, Slot, unset, set, HostAt, address_at, labels_at, AuthorityAt, no_scheme, number_at, name_at, OpeningAt, discard_at, discard_all_at, full_at, Found}
 use Rattle.rules.specs.Meaning.{said_texts, said_host}
 use Rattle.rules.specs.Valid.{GoodPort}
 use Rattle.rules.specs.Options.{option, uri_host, uri_port, option_bytes, options_from}
@@ -47,9 +47,14 @@ opening_answer bs (full_at (name_at at n) a) f to_address to_port = refused COAP
 
 -- ---- what is known of the positions
 
+-- a host of labels has one
+abbrev pub HasLabel : HostAt → Type 0
+HasLabel (address_at at n) = Unit {0}
+HasLabel (labels_at at n) = 0 < n
+
 -- of host and port
 abbrev pub AuthorityAsks : Bytes → AuthorityAt → Type 0
-AuthorityAsks bs a = HostAsks bs a.host × GoodPort a.port
+AuthorityAsks bs a = (HostAsks bs a.host × HasLabel a.host) × GoodPort a.port
 
 -- where there are any
 abbrev pub OpeningAsks : Bytes → OpeningAt → Type 0

@@ -73,7 +73,7 @@ module _ (bs : Bytes) (e : length bs ≡ 16) (h : Octets bs) (z : Zeros) (is : z
       let five : (longest gs).left ++ (replicate (longest gs).size 0 ++ (longest gs).right) ≡ replicate 5 0 ++ (0xffff ∷ drop 6 gs) = rw (left, size, right) in
       ap mapped (sym (ungroup_groups 8 bs e h) ∙ ap ungroup (sym (longest_whole gs) ∙ five))
 
-  -- the test that the code makes
+  -- the walk for the longest run would tell it too
   pub mapped_five : get_or (groups bs) 5 0 ≡ 0xffff → z.at ≡ 0 → eqb z.size 5 ≡ mapped bs
   mapped_five g a =
       by_test (λ t. mapped bs ≡ t → eqb z.size 5 ≡ t) (mapped bs)

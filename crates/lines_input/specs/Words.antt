@@ -1,9 +1,10 @@
 -- The words of a request: before each word of what is left of a line stands a space.
-use Rattle.std.specs.Prelude.{ℕ, ◌^◌, not, cond, Result, Ok, Err, length, take, drop, ltb, eqb}
+use Rattle.std.specs.Prelude.{ℕ, ◌^◌, not, cond, Result, Ok, Err, length, take, drop, leb, ltb, eqb}
 use Rattle.std.specs.List.{prefix_len}
 use Rattle.rules.specs.Bytes.{Bytes}
 use Rattle.words.specs.declared.NumberError.{NumberError}
-use Rattle.words.specs.Words.{number_of}
+use Rattle.words.specs.declared.HexError.{HexError}
+use Rattle.words.specs.Words.{hex_of, number_of}
 use Rattle.lines_input.specs.declared.Fault.{Fault}
 use Rattle.lines_input.specs.declared.Fault.TheVariants as FaultV
 
@@ -19,6 +20,16 @@ word_of left = cond (eqb (length left) 0) (Err FaultV.Missing) (cond (eqb (word_
 unfoldable pub left_of : Bytes → Bytes
 left_of left = cond (eqb (word_end (drop 1 left)) 0) left (drop (word_end (drop 1 left)) (drop 1 left))
 
+-- how many bytes, or what is wrong with the word
+abbrev pub as_bytes : Result ℕ HexError → Result ℕ Fault
+as_bytes (Ok n) = Ok n
+as_bytes (Err e) = Err (FaultV.Hex e)
+
+-- how many bytes the next word says in a room of this length
+abbrev pub bytes_in : Result Bytes Fault → ℕ → Result ℕ Fault
+bytes_in (Ok w) room = as_bytes (hex_of w room)
+bytes_in (Err e) room = Err e
+
 -- a number, or what is wrong with it
 abbrev pub as_number : Result ℕ NumberError → Result ℕ Fault
 as_number (Ok n) = Ok n
@@ -33,3 +44,8 @@ number_in (Err e) = Err e
 abbrev pub port_in : Result ℕ Fault → Result ℕ Fault
 port_in (Ok n) = cond (ltb n (2 ^ 16)) (Ok n) (Err FaultV.PortTooLarge)
 port_in (Err e) = Err e
+
+-- how much is lent of a room of this length
+abbrev pub lent_in : Result ℕ Fault → ℕ → Result ℕ Fault
+lent_in (Ok n) room = cond (leb n room) (Ok n) (Err FaultV.RoomTooLarge)
+lent_in (Err e) room = Err e

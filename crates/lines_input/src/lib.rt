@@ -1,9 +1,9 @@
 // The words of a request, one after the other, and components given as words: for the program cri_lines alone.
 #![tactic(auto)]
 
-ghost use Rattle.std.specs.Prelude.{◌≡◌, ◌<◌, ◌≤◌, ◌^◌, ◌↔◌, IsSome, Ok, Err, [], length, take, drop, IsTrue, IfSome, IsOk, IfErr, MatchResult};
+ghost use Rattle.std.specs.Prelude.{◌≡◌, ◌<◌, ◌≤◌, ◌^◌, ◌↔◌, IsSome, Ok, Err, [], length, take, drop, IsTrue, IfSome, IsOk, IfOk, IfErr, MatchResult};
 ghost use Rattle.lines_input.specs.declared.Fault.TheVariants as FaultV;
-ghost use Rattle.lines_input.specs.Words.{word_end, word_of, left_of, number_in, port_in};
+ghost use Rattle.lines_input.specs.Words.{word_end, word_of, left_of, bytes_in, number_in, port_in, lent_in};
 
 use cbor::Span;
 use components::{Authority, Components, Host, Opening, Scheme, Spans};
@@ -36,6 +36,11 @@ pub enum Fault {
 }
 
 impl From<HexError> for Fault {
+    ghost use Rattle.std.specs.Prelude.{◌≡◌};
+    ghost use Rattle.lines_input.specs.declared.Fault.TheVariants as FaultV;
+
+    ghost from_gives = { λ e r. r ≡ FaultV.Hex e };
+
     fn from(error: HexError) -> Fault {
         Fault::Hex(error)
     }
@@ -76,7 +81,7 @@ impl fmt::Display for Fault {
 // ---- words
 
 // What is left of a line: before each word stands a space.
-#[derive(Drop)]
+#[derive(Clone, Copy)]
 pub struct Words<'a> {
     rest: &'a [u8],
     ghost fits: { length rest.now < 2 ^ 64 },
@@ -168,13 +173,23 @@ impl<'a> Words<'a> {
     }
 
     // Bytes, put at the start of the room.
-    pub fn bytes<'r>(&mut self, room: &'r mut [u8]) -> Result<&'r [u8], Fault> {
+    pub fn bytes<'r>(&mut self, room: &'r mut [u8]) -> Result<&'r [u8], Fault>
+        ensures size { MatchResult result (λ b. bytes_in (word_of self.old.rest.now) (length room.old) ≡ Ok (length b.now))
+            (λ e. bytes_in (word_of self.old.rest.now) (length room.old) ≡ Err e) }
+        ensures held { IfOk result (λ b. length b.now ≤ length room.old) }
+        ensures left { self.new.rest.now ≡ left_of self.old.rest.now }
+    {
         let n = words::hex_bytes(room, self.word()?)?;
         Ok(&room[..n])
     }
 
     // How much of the room is lent.
-    pub fn lent<'r>(&mut self, room: &'r mut [u8]) -> Result<&'r mut [u8], Fault> {
+    pub fn lent<'r>(&mut self, room: &'r mut [u8]) -> Result<&'r mut [u8], Fault>
+        ensures size { MatchResult result (λ r. lent_in (number_in (word_of self.old.rest.now)) (length room.old) ≡ Ok (length r.now))
+            (λ e. lent_in (number_in (word_of self.old.rest.now)) (length room.old) ≡ Err e) }
+        ensures held { IfOk result (λ r. length r.now ≤ length room.old) }
+        ensures left { self.new.rest.now ≡ left_of self.old.rest.now }
+    {
         let n = self.number()? as usize;
         room.get_mut(..n).ok_or(Fault::RoomTooLarge)
     }

@@ -17,10 +17,12 @@ pub fn fill(room: &mut [u8]) {
 
 // Whether every byte from a place on is as it was before the call.
 fn is_kept(room: &[u8], from: usize) -> bool {
-    room.iter()
-        .enumerate()
-        .skip(from)
-        .all(|(i, b)| *b == filling(i))
+    for i in from..room.len() {
+        if room[i] != filling(i) {
+            return false;
+        }
+    }
+    true
 }
 
 // The answer of a call that was lent the room: its number, the length and the bytes that it wrote, and whether it kept the others.

@@ -35,7 +35,7 @@ fn hex_digit(n: u8) -> u8
 }
 
 // The first `used` bytes wait to be written.
-#[derive(Drop)]
+#[derive(Clone, Drop)]
 pub struct Output {
     bytes: [u8; SIZE],
     used: usize,

@@ -25,9 +25,10 @@ fn copy_ends<const N: usize>(room: &mut [u8], text: &[u8])
     room[last..].copy_from_slice(&text[last..]);
 }
 
-// What copy_from_slice does. It calls memcpy, which takes longer on the few bytes that most texts have.
+// What copy_from_slice does for a short text. It calls memmove, which takes longer on the few bytes that most texts have.
 fn copy(room: &mut [u8], text: &[u8])
-    requires { length room.old ≡ length text.now }
+    requires short { length text.now ≤ 32 }
+    requires room_length { length room.old ≡ length text.now }
     ensures { room.new ≡ text.now }
 {
     match text.len() {
@@ -38,9 +39,35 @@ fn copy(room: &mut [u8], text: &[u8])
         }
         4..8 => copy_ends::<4>(room, text),
         8..16 => copy_ends::<8>(room, text),
-        16..=32 => copy_ends::<16>(room, text),
-        _ => room.copy_from_slice(text),
+        _ => copy_ends::<16>(room, text),
     }
+}
+
+// How many bytes of a long text are copied at once.
+const BLOCK: usize = 32;
+
+// So many bytes of a text, from a position on.
+fn put_block(room: &mut [u8], at: usize, text: &[u8], from: usize) -> usize
+    requires from_in_bounds { from + 32 ≤ length text.now }
+    requires at_in_bounds { at + 32 ≤ length room.old }
+    ensures { Wrote room.old at (part text.now from 32) room.new result }
+{
+    let end = at + BLOCK;
+    room[at..end].copy_from_slice(&text[from..from + BLOCK]);
+    end
+}
+
+// A text of a block or more, block by block: a program that links this needs no memmove. Of the last block some may be written for the second time.
+fn put_blocks(room: &mut [u8], at: usize, text: &[u8]) -> usize
+    requires a_block { 32 ≤ length text.now }
+    requires room_enough { at + length text.now ≤ length room.old }
+    ensures { Wrote room.old at text.now room.new result }
+{
+    for i in 0..text.len() / BLOCK {
+        put_block(room, at + i * BLOCK, text, i * BLOCK);
+    }
+    let last = text.len() - BLOCK;
+    put_block(room, at + last, text, last)
 }
 
 // All of a byte string.
@@ -48,6 +75,9 @@ pub fn put_bytes(room: &mut [u8], at: usize, text: &[u8]) -> usize
     requires { at + length text.now ≤ length room.old }
     ensures { Wrote room.old at text.now room.new result }
 {
+    if 32 < text.len() {
+        return put_blocks(room, at, text);
+    }
     let end = at + text.len();
     copy(&mut room[at..end], text);
     end

@@ -126,7 +126,8 @@ fn is_dash(rt: &impl Env, i: usize) -> bool {
     }
 }
 
-// The bytes that hex on standard input says.
+// The bytes that hex on standard input says. It is a call, as take_word is, so that their large buffers are no part of their callers.
+#[inline(never)]
 fn take_input(room: &mut [u8]) -> Result<&[u8], Fault> {
     let mut word = io::large_buffer();
     let mut scratch = io::large_buffer();
@@ -139,6 +140,7 @@ fn take_input(room: &mut [u8]) -> Result<&[u8], Fault> {
 }
 
 // The bytes that an argument of hex says.
+#[inline(never)]
 fn take_word<'a>(rt: &impl Env, room: &'a mut [u8], i: usize) -> Result<&'a [u8], Fault> {
     let mut word = io::large_buffer();
     let mut scratch = io::large_buffer();
@@ -186,6 +188,7 @@ fn join_arguments(rt: &impl Env, room: &mut [u8]) -> Result<usize, Fault>
 }
 
 // The bytes that all arguments after the command say together.
+#[inline(never)]
 pub fn take_joined<'a>(rt: &impl Env, room: &'a mut [u8]) -> Result<&'a [u8], Fault> {
     if !is_given(rt, 3) {
         return take_hex(rt, room, 2, 3);
@@ -198,11 +201,7 @@ pub fn take_joined<'a>(rt: &impl Env, room: &'a mut [u8]) -> Result<&'a [u8], Fa
 }
 
 // The bytes of the address that argument i says.
-pub fn take_address<'a>(
-    rt: &impl Env,
-    room: &'a mut [u8; 16],
-    i: usize,
-) -> Result<&'a [u8], Fault> {
+pub fn take_address<'a>(rt: &impl Env, room: &'a mut [u8], i: usize) -> Result<&'a [u8], Fault> {
     let mut word = io::buffer();
     let mut scratch = io::buffer();
     let n = take(rt, &mut word, i, Fault::AddressTooLong)?;

@@ -53,6 +53,7 @@ impl Command {
 // ---- what goes wrong
 
 // What is wrong with an argument, and how the command is called: one line.
+#[inline(never)]
 fn complain(complaint: Complaint, command: Command) {
     let mut err = Output::new(Stream::Error);
     writeln!(
@@ -64,7 +65,8 @@ fn complain(complaint: Complaint, command: Command) {
 }
 
 // A refusal of an argument, and what follows it.
-fn refuse(argument: &str, s: &[u8], refusal: Refusal) {
+#[inline(never)]
+fn refuse(argument: &[u8], s: &[u8], refusal: Refusal) {
     let mut err = Output::new(Stream::Error);
     say_refusal(&mut err, argument, s, refusal);
     err.flush();
@@ -90,116 +92,126 @@ fn show(out: &mut Output, s: &[u8]) {
             say_components(out, s, &spans, components);
             let _ = say_uri_text(out, b"text      ", s);
         }
-        Err(refusal) => say_refusal(out, "HEX", s, refusal),
+        Err(refusal) => say_refusal(out, b"HEX", s, refusal),
     }
 }
 
 // text HEX: the URI text.
 fn text(out: &mut Output, s: &[u8]) {
     if let Err(refusal) = say_uri_text(out, b"", s) {
-        refuse("HEX", s, refusal);
+        refuse(b"HEX", s, refusal);
     }
 }
 
 // ---- resolve
 
 // A refused base, and which of the two it is: refused by the reader too, or not absolute.
+#[inline(never)]
 fn refuse_base(base: &[u8], refusal: Refusal) {
     let mut err = Output::new(Stream::Error);
-    say_refusal(&mut err, "BASE", base, refusal);
+    say_refusal(&mut err, b"BASE", base, refusal);
     let mut spans = [0; SPANS];
     match cri::read(base, &mut spans) {
         Ok(_) => writeln!(err, "read by itself it is accepted: it is not absolute"),
-        Err(cause) => say_refusal(&mut err, "read by itself it", base, cause),
+        Err(cause) => say_refusal(&mut err, b"read by itself it", base, cause),
     }
     err.flush();
 }
 
-fn say_resolved(out: &mut Output, base: &[u8], reference: &[u8]) {
+#[inline(never)]
+fn say_resolved(base: &[u8], reference: &[u8]) {
     let mut room = [0u8; BYTES];
     match cri::resolve(base, reference, &mut room) {
         Ok(length) => {
             let resolved = &room[..length.min(BYTES)];
+            let mut out = Output::new(Stream::Output);
             out.hex(resolved);
-            let _ = say_uri_text(out, b"\n", resolved);
+            let _ = say_uri_text(&mut out, b"\n", resolved);
+            out.flush();
         }
         Err(refusal) => match refusal.reason {
             Reason::Base => refuse_base(base, refusal),
-            Reason::Result => refuse("the result", reference, refusal),
-            _ => refuse("REFERENCE", reference, refusal),
+            Reason::Result => refuse(b"the result", reference, refusal),
+            _ => refuse(b"REFERENCE", reference, refusal),
         },
     }
 }
 
 // resolve BASE REFERENCE: the resolved CRI in hex, and its URI text.
-fn resolve(rt: &impl Env, out: &mut Output) -> Result<(), Complaint> {
+fn resolve(rt: &impl Env) -> Result<(), Complaint> {
     let mut base = [0u8; ROOM];
     let mut reference = [0u8; ROOM];
     let base = take_hex(rt, &mut base, 2, 4).map_err(|fault| fault.of("BASE"))?;
     let reference = take_hex(rt, &mut reference, 3, 4).map_err(|fault| fault.of("REFERENCE"))?;
-    say_resolved(out, base, reference);
+    say_resolved(base, reference);
     Ok(())
 }
 
 // ---- options
 
-fn say_request(out: &mut Output, s: &[u8], address: &[u8], port: u16) {
+#[inline(never)]
+fn say_request(s: &[u8], address: &[u8], port: u16) {
     let mut room = [0u8; OPTIONS_ROOM];
     match cri::options(s, address, port, &mut room) {
         Ok(length) => {
             let options = &room[..length.min(OPTIONS_ROOM)];
+            let mut out = Output::new(Stream::Output);
             writeln!(out, "to        {}, port {port}", Address(address));
-            say_options(out, options);
+            say_options(&mut out, options);
             out.text(b"bytes     ");
-            say_bytes(out, options);
-            out.byte(b'\n')
+            say_bytes(&mut out, options);
+            out.byte(b'\n');
+            out.flush();
         }
         Err(refusal) => match refusal.reason {
-            Reason::Dest => refuse("ADDRESS", address, refusal),
-            _ => refuse("HEX", s, refusal),
+            Reason::Dest => refuse(b"ADDRESS", address, refusal),
+            _ => refuse(b"HEX", s, refusal),
         },
     }
 }
 
 // options HEX ADDRESS PORT: where the request is sent, each option, and the bytes of all.
-fn options(rt: &impl Env, out: &mut Output) -> Result<(), Complaint> {
+fn options(rt: &impl Env) -> Result<(), Complaint> {
     let mut room = [0u8; ROOM];
     let mut address = [0u8; 16];
     let s = take_hex(rt, &mut room, 2, 5).map_err(|fault| fault.of("HEX"))?;
     let address = take_address(rt, &mut address, 3).map_err(|fault| fault.of("ADDRESS"))?;
     let port = take_port(rt, 4).map_err(|fault| fault.of("PORT"))?;
-    say_request(out, s, address, port);
+    say_request(s, address, port);
     Ok(())
 }
 
 // ---- same
 
-fn refuse_if(argument: &str, s: &[u8], verdict: Result<(), Refusal>) {
+fn refuse_if(argument: &[u8], s: &[u8], verdict: Result<(), Refusal>) {
     if let Err(refusal) = verdict {
         refuse(argument, s, refusal);
     }
 }
 
 // Whether the two are the same CRI, and both texts; or the refusals.
-fn say_same(out: &mut Output, first: &[u8], second: &[u8]) {
+#[inline(never)]
+fn say_same(first: &[u8], second: &[u8]) {
     let judgement = sameness::judge(first, second);
-    refuse_if("the first HEX", first, judgement.first);
-    refuse_if("the second HEX", second, judgement.second);
+    refuse_if(b"the first HEX", first, judgement.first);
+    refuse_if(b"the second HEX", second, judgement.second);
     if judgement.first.is_ok() && judgement.second.is_ok() {
         let equal = if judgement.equal { "same" } else { "different" };
+        let mut out = Output::new(Stream::Output);
         writeln!(out, "{equal}");
-        let _ = say_uri_text(out, b"", first);
-        let _ = say_uri_text(out, b"", second);
+        let _ = say_uri_text(&mut out, b"", first);
+        let _ = say_uri_text(&mut out, b"", second);
+        out.flush();
     }
 }
 
 // same HEX HEX: whether the two are the same CRI, and both texts.
-fn same(rt: &impl Env, out: &mut Output) -> Result<(), Complaint> {
+fn same(rt: &impl Env) -> Result<(), Complaint> {
     let mut first = [0u8; ROOM];
     let mut second = [0u8; ROOM];
     let first = take_hex(rt, &mut first, 2, 4).map_err(|fault| fault.of("the first HEX"))?;
     let second = take_hex(rt, &mut second, 3, 4).map_err(|fault| fault.of("the second HEX"))?;
-    say_same(out, first, second);
+    say_same(first, second);
     Ok(())
 }
 
@@ -225,30 +237,36 @@ Offsets are in hex. Answers, and refusals by \"show\" and \"dump\", go to standa
 
 // ---- the whole
 
+// What is said of bytes, printed. It is a call, so that the memory in which the arguments were read is free again.
+#[inline(never)]
+fn print<F: Fn(&mut Output, &[u8])>(s: &[u8], say: F)
+    requires { F.IsAlwaysCallable say }
+{
+    let mut out = Output::new(Stream::Output);
+    say(&mut out, s);
+    out.flush();
+}
+
 // A command that has HEX alone, which may be several arguments.
-fn run_on_hex<F: Fn(&mut Output, &[u8])>(
-    rt: &impl Env,
-    out: &mut Output,
-    say: F,
-) -> Result<(), Complaint>
+fn run_on_hex<F: Fn(&mut Output, &[u8])>(rt: &impl Env, say: F) -> Result<(), Complaint>
     requires { F.IsAlwaysCallable say }
 {
     let mut room = [0u8; ROOM];
     let s = take_joined(rt, &mut room).map_err(|fault| fault.of("HEX"))?;
-    say(out, s);
+    print(s, say);
     Ok(())
 }
 
-fn run(rt: &impl Env, out: &mut Output, command: Command) -> Result<(), Complaint> {
+fn run(rt: &impl Env, command: Command) -> Result<(), Complaint> {
     match command {
-        Command::Show => run_on_hex(rt, out, show),
-        Command::Dump => run_on_hex(rt, out, tool_dump::say_dump),
-        Command::Text => run_on_hex(rt, out, text),
-        Command::Resolve => resolve(rt, out),
-        Command::Options => options(rt, out),
-        Command::Same => same(rt, out),
+        Command::Show => run_on_hex(rt, show),
+        Command::Dump => run_on_hex(rt, tool_dump::say_dump),
+        Command::Text => run_on_hex(rt, text),
+        Command::Resolve => resolve(rt),
+        Command::Options => options(rt),
+        Command::Same => same(rt),
         Command::Help => {
-            out.text(HELP.as_bytes());
+            Stream::Output.write(HELP.as_bytes());
             Ok(())
         }
     }
@@ -269,10 +287,7 @@ pub fn run_arguments(rt: &impl Env) {
         Ok(command) => command,
         Err(complaint) => return complain(complaint, Command::Help),
     };
-    let mut out = Output::new(Stream::Output);
-    let ran = run(rt, &mut out, command);
-    out.flush();
-    if let Err(complaint) = ran {
+    if let Err(complaint) = run(rt, command) {
         complain(complaint, command);
     }
 }

@@ -1,5 +1,6 @@
 // The items of a link, one after the other. What an item is for is known by where it stands (docs/RULES.md, section 1).
-ghost use Rattle.std.specs.Prelude.{◌≤◌, ◌<◌, length};
+ghost use Rattle.std.specs.Prelude.{◌≡◌, ◌≤◌, ◌<◌, ◌+◌, ◌-◌, ◌++◌, None, IfSome, length};
+ghost use Rattle.std.specs.Option.{ForSome};
 ghost use Rattle.std.specs.Iterator.{at_most};
 
 use cbor::{Head, Kind, Kinds, head_at, width_of};
@@ -53,7 +54,9 @@ pub struct Place {
 
 impl Place {
     // The next item of the link, which has `count` left.
-    fn outer(role: Role, count: u64) -> Place {
+    fn outer(role: Role, count: u64) -> Place
+        ensures { result.inner ≡ None }
+    {
         match count.checked_sub(1) {
             Some(outer) => Place {
                 role,
@@ -68,7 +71,9 @@ impl Place {
         }
     }
 
-    fn after_inner(self, inner: Inner) -> Place {
+    fn after_inner(self, inner: Inner) -> Place
+        ensures { IfSome result.inner (λ next. next.index ≤ inner.index + 1) }
+    {
         if inner.left <= 1 {
             return Place::outer(self.role.next(), self.outer);
         }
@@ -83,7 +88,10 @@ impl Place {
     }
 
     // After the head of an array: its first item, or the next item of the link.
-    fn after_array(self, count: u64) -> Place {
+    fn after_array(self, count: u64) -> Place
+        requires { self.inner ≡ None }
+        ensures { IfSome result.inner (λ first. first.index ≡ 0) }
+    {
         if self.role == Role::Link {
             return Place::outer(Role::Opening, count);
         }
@@ -101,7 +109,10 @@ impl Place {
     }
 
     // After an item that stands here and has this head. No authority stands after a discard.
-    pub fn after(self, head: Option<Head>) -> Place {
+    pub fn after(self, head: Option<Head>) -> Place
+        ensures first { self.inner ≡ None → IfSome result.inner (λ first. first.index ≡ 0) }
+        ensures next { IfSome self.inner (λ inner. IfSome result.inner (λ next. next.index ≤ inner.index + 1)) }
+    {
         if let Some(inner) = self.inner {
             return self.after_inner(inner);
         }
@@ -115,7 +126,9 @@ impl Place {
     }
 
     // How many blanks an item stands behind.
-    pub fn indent(self) -> usize {
+    pub fn indent(self) -> usize
+        ensures { result ≤ 4 }
+    {
         match self.role {
             _ if self.inner.is_some() => 4,
             Role::Link | Role::After => 0,
@@ -202,7 +215,10 @@ pub fn content_length(head: Option<Head>) -> Option<u64> {
 impl<'a> Item<'a> {
     // The item at the start of s, which stands at this offset and place.
     pub fn read(s: &'a [u8], at: usize, place: Place) -> Item<'a>
-        ensures { 0 < length s.now → length result.rest.now < length s.now }
+        ensures bytes { result.bytes.now ≡ s.now }
+        ensures parts { s.now ≡ result.first.now ++ (result.argument.now ++ (result.content.now ++ result.rest.now)) }
+        ensures first { 0 < length s.now → length result.first.now ≡ 1 }
+        ensures place { result.at ≡ at }
     {
         let head = head_at(s, 0, ANY).ok();
         let (first, rest) = s.split_at(s.len().min(1));
@@ -230,10 +246,16 @@ pub struct Items<'a> {
     // Where the next item stands.
     pub place: Place,
     ghost in_link: { length rest.now ≤ length link.now },
+    // An index is no larger than the offset.
+    ghost counted: { ForSome place.inner (λ inner. inner.index ≤ length link.now - length rest.now) },
 }
 
 impl<'a> Items<'a> {
-    pub fn of(link: &'a [u8]) -> Items<'a> {
+    pub fn of(link: &'a [u8]) -> Items<'a>
+        ensures link { result.link.now ≡ link.now }
+        ensures rest { result.rest.now ≡ link.now }
+        ensures place { result.place.inner ≡ None }
+    {
         Items {
             link,
             rest: link,
@@ -243,6 +265,21 @@ impl<'a> Items<'a> {
                 outer: 0,
             },
         }
+    }
+
+    // The item at the start of what is left; what stands after it is left then.
+    fn advance(&mut self) -> Item<'a>
+        requires { 0 < length self.old.rest.now }
+        ensures offset { result.at ≡ length self.old.link.now - length self.old.rest.now }
+        ensures bytes { result.bytes.now ≡ self.old.rest.now }
+        ensures link { self.new.link.now ≡ self.old.link.now }
+        ensures rest { self.new.rest.now ≡ result.rest.now }
+        ensures shorter { length self.new.rest.now < length self.old.rest.now }
+    {
+        let item = Item::read(self.rest, self.link.len() - self.rest.len(), self.place);
+        self.rest = item.rest;
+        self.place = self.place.after(item.head);
+        item
     }
 }
 
@@ -255,9 +292,6 @@ impl<'a> Iterator for Items<'a> {
         if self.rest.is_empty() {
             return None;
         }
-        let item = Item::read(self.rest, self.link.len() - self.rest.len(), self.place);
-        self.rest = item.rest;
-        self.place = self.place.after(item.head);
-        Some(item)
+        Some(self.advance())
     }
 }

@@ -17,7 +17,7 @@ use tool_messages::say_refusal;
 // The items before the one at fault, and that one. Of an input that is too long no item is looked at.
 fn say_refused(out: &mut Output, s: &[u8], refusal: Refusal) {
     if BYTES < s.len() {
-        return say_refusal(out, "HEX", s, refusal);
+        return say_refusal(out, b"HEX", s, refusal);
     }
     let at = refusal.place.min(s.len());
     let (before, rest) = s.split_at(at);

@@ -1,6 +1,8 @@
 // Addresses: dotted, IPv6 (RFC 4291, section 2.2) or hex.
-ghost use Rattle.std.specs.Prelude.{◌≡◌, ◌≤◌, true, false, length, IfOk};
+ghost use Rattle.std.specs.Prelude.{◌≡◌, ◌≤◌, ◌<◌, true, false, length, Err, IfOk};
 ghost use Rattle.words.specs.Words.{room_after};
+ghost use Rattle.words.specs.declared.HexError.TheVariants as HexErrorV;
+ghost use Rattle.tool_input.specs.declared.address.AddressError.TheVariants as AddressErrorV;
 ghost use Rattle.tool_input.specs.Plain.{plain, typed_of};
 ghost use Rattle.tool_input.specs.Address.{has, without_brackets, ReadsIpv6, ReadsDotted, as_address};
 
@@ -38,25 +40,29 @@ fn without_brackets(word: &[u8]) -> &[u8]
 }
 
 // The bytes of an address, put at the start of the room: IPv6, in brackets or not, where the word has a colon, dotted where it has a dot,
-// else hex.
+// else hex. In a room of fewer than 16 none has place.
 #[tactic(auto, unfolding(crate::specs::Address::has))]
 pub fn address_bytes(
-    room: &mut [u8; 16],
+    room: &mut [u8],
     scratch: &mut [u8],
     word: &[u8],
 ) -> Result<usize, AddressError>
-    ensures ipv6 { has 0x3A word.now ≡ true → ReadsIpv6 (without_brackets word.now) room.old result room.new }
-    ensures dotted { has 0x3A word.now ≡ false → has 0x2E word.now ≡ true → ReadsDotted word.now room.old result room.new }
-    ensures hex { has 0x3A word.now ≡ false → has 0x2E word.now ≡ false
-        → (result ≡ as_address (typed_of word.now (length scratch.old) 16))
-        × (room.new ≡ room_after (typed_of word.now (length scratch.old) 16) (plain word.now) room.old) }
-    ensures held { IfOk result (λ n. n ≤ 16) }
+    ensures short { length room.old < 16 → (result ≡ Err (AddressErrorV.Hex HexErrorV.TooLong)) × (room.new ≡ room.old) }
+    ensures ipv6 { 16 ≤ length room.old → has 0x3A word.now ≡ true → ReadsIpv6 (without_brackets word.now) room.old result room.new }
+    ensures dotted { 16 ≤ length room.old → has 0x3A word.now ≡ false → has 0x2E word.now ≡ true → ReadsDotted word.now room.old result room.new }
+    ensures hex { 16 ≤ length room.old → has 0x3A word.now ≡ false → has 0x2E word.now ≡ false
+        → (result ≡ as_address (typed_of word.now (length scratch.old) (length room.old)))
+        × (room.new ≡ room_after (typed_of word.now (length scratch.old) (length room.old)) (plain word.now) room.old) }
+    ensures held { IfOk result (λ n. n ≤ length room.new) }
 {
+    if room.len() < 16 {
+        return Err(AddressError::Hex(HexError::TooLong));
+    }
     if word.contains(&b':') {
         let Ok(address) = Ipv6Addr::parse_ascii(without_brackets(word)) else {
             return Err(AddressError::NotIpv6);
         };
-        room.copy_from_slice(&address.octets());
+        room[..16].copy_from_slice(&address.octets());
         return Ok(16);
     }
     if word.contains(&b'.') {

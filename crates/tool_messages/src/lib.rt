@@ -9,6 +9,7 @@ mod reasons;
 mod references;
 
 pub use counts::{Count, Negative};
+pub use marks::say_marked;
 pub use named::say_options;
 pub use quotes::{Address, Quoted, say_bytes};
 pub use reasons::{say_reason, say_refusal};

@@ -39,6 +39,14 @@ fn say_row_at(out: &mut Output, s: &[u8], offset: usize)
     out.byte(b'\n');
 }
 
+// Where byte i of a row stands, after the offset: each byte takes three characters, and each eight one more.
+fn column(i: usize) -> usize
+    requires { i ≤ 16 }
+    ensures { result ≤ 50 }
+{
+    3 * i + i / 8
+}
+
 // The row of a byte, which is marked, with the row before and the row after. Where the input ends at the place, the mark stands after its last byte.
 pub fn say_marked(out: &mut Output, s: &[u8], place: usize) {
     let place = place.min(s.len());
@@ -48,7 +56,7 @@ pub fn say_marked(out: &mut Output, s: &[u8], place: usize) {
         say_row_at(out, s, offset - ROW);
     }
     say_row_at(out, s, offset);
-    let column = 6 + 3 * i + i / 8;
+    let column = 6 + column(i);
     writeln!(out, "{:column$}^^", "");
     if ROW < s.len() - offset {
         say_row_at(out, s, offset + ROW);

@@ -52,9 +52,10 @@ fn say_place(out: &mut Output, s: &[u8], place: usize) {
 }
 
 // Which argument is refused, why and where. The reader's reasons, 1 to 7, have a place.
-pub fn say_refusal(out: &mut Output, argument: &str, s: &[u8], refusal: Refusal) {
+pub fn say_refusal(out: &mut Output, argument: &[u8], s: &[u8], refusal: Refusal) {
     let Refusal { reason, place } = refusal;
-    write!(out, "{argument} is ");
+    out.text(argument);
+    out.text(b" is ");
     say_reason(out, reason);
     if reason.number() <= Reason::Tail.number() {
         say_place(out, s, place);

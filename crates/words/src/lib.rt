@@ -1,9 +1,9 @@
 // The words of a request: bytes in lower-case hex, and decimal numbers.
 #![tactic(auto)]
 
-ghost use Rattle.std.specs.Prelude.{◌≡◌, ◌+◌, ◌*◌, ◌/◌, ◌≤◌, true, length, IfOk};
+ghost use Rattle.std.specs.Prelude.{◌≡◌, ◌+◌, ◌*◌, ◌/◌, ◌<◌, ◌≤◌, true, length, IfOk};
 ghost use Rattle.std.proofs.lemmas.List.Edits.{sets};
-ghost use Rattle.words.specs.Words.{digit, are_digits, if_fits, number_of, pair_bytes, hex_of, room_after};
+ghost use Rattle.words.specs.Words.{value_of, digit, are_digits, if_fits, number_of, pair_bytes, hex_of, room_after};
 
 // Why a word says no number.
 #[derive(Clone, Copy, Debug, PartialEq, Eq)]
@@ -23,17 +23,25 @@ pub enum HexError {
     TooLong,
 }
 
-// The value of a digit of this base, "0" to "9" and "a" to "f".
-#[tactic(auto, unfolding(crate::specs::Words::digit, crate::specs::Words::value_of))]
+// The value of a digit, "0" to "9" and "a" to "f"; 16 for any other byte. A number in place of an `Option` has no branch.
+#[tactic(auto, unfolding(crate::specs::Words::value_of))]
+pub fn value_of(c: u8) -> u8
+    ensures { result ≡ value_of c }
+{
+    match c {
+        b'0'..=b'9' => c - b'0',
+        b'a'..=b'f' => c - b'a' + 10,
+        _ => 16,
+    }
+}
+
+// The value of a digit of this base.
+#[tactic(auto, unfolding(crate::specs::Words::digit))]
 pub fn digit(c: u8, base: u8) -> Option<u8>
     requires { base ≤ 16 }
     ensures { result ≡ digit base c }
 {
-    let value = match c {
-        b'0'..=b'9' => c - b'0',
-        b'a'..=b'f' => c - b'a' + 10,
-        _ => return None,
-    };
+    let value = value_of(c);
     (value < base).then_some(value)
 }
 
@@ -61,13 +69,13 @@ pub fn decimal(word: &[u8]) -> Result<u64, NumberError>
     number.ok_or(NumberError::TooLarge)
 }
 
-// Whether each byte is a digit of this base, at most 16.
+// Whether each byte is a digit of this base, 1 or more. It has no early exit, so that it becomes vector code.
 #[tactic(auto, unfolding(crate::specs::Words::are_digits, crate::specs::Words::digit))]
 fn are_digits(word: &[u8], base: u8) -> bool
-    requires { base ≤ 16 }
+    requires { 0 < base }
     ensures { result ≡ are_digits base word.now }
 {
-    word.iter().all(|c| digit(*c, base).is_some())
+    word.iter().fold(0, |most: u8, c| most.max(value_of(*c))) < base
 }
 
 // The bytes that pairs of hex digits say, put at the start of the room.
@@ -81,7 +89,7 @@ fn put_pairs(room: &mut [u8], word: &[u8]) -> usize
     let mut rest = word;
     let mut n = 0;
     while let [first, second, others @ ..] = rest {
-        room[n] = digit(*first, 16).unwrap() * 16 + digit(*second, 16).unwrap();
+        room[n] = value_of(*first) * 16 + value_of(*second);
         n += 1;
         rest = others;
     }

@@ -28,7 +28,7 @@ pub requested-requires-clause-host_asks : goal.requested-requires-clause-host_as
 requested-requires-clause-host_asks c =
     let m = default_most _ _ (sym c.default_port.ensures ∙ ap (option_is (λ p. p)) c.in-Some.is) in
     let p = port_most (port_of c.args.authority.port) _ c.requires.authority_asks.1 m in
-    (c.requires.authority_asks.0, omega (arith, p, c.unwrap_or.ensures, port_or c.args.authority.port c.in-Some.default))
+    (c.requires.authority_asks.0.0, omega (arith, p, c.unwrap_or.ensures, port_or c.args.authority.port c.in-Some.default))
 
 pub returns : goal.returns
 returns c =

@@ -39,7 +39,7 @@ pub returns : goal.returns
 returns c =
     let base = c.args.base.now in
     let ref = c.args.reference.now in
-    let d = base_says base _ (sym c.in_ok-b.ensures) in
+    let d = base_says _ _ (sym c.in_ok-b.ensures) in
     let u = sym (call_parts base ref _ _ _ d.absolute (read_reference_lem ref _ (sym c.in_ok-r.ensures)) (c.parts_of-parts.ensures d.cri d.says)) in
     let r = right_as _ u (c.put_result.ensures.result_value, c.put_result.ensures.room_after) in
     record { result_value = r.0; room_after = r.1 }
