@@ -57,7 +57,7 @@ fn put_block(room: &mut [u8], at: usize, text: &[u8], from: usize) -> usize
     end
 }
 
-// A text of a block or more, block by block: a program that links this needs no memmove. Of the last block some may be written for the second time.
+// A text of a block or more, block by block: a program that links this needs no memmove. Of the last block some or all may be written for the second time.
 fn put_blocks(room: &mut [u8], at: usize, text: &[u8]) -> usize
     requires a_block { 32 ≤ length text.now }
     requires room_enough { at + length text.now ≤ length room.old }

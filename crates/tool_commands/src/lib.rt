@@ -237,7 +237,8 @@ Offsets are in hex. Answers, and refusals by \"show\" and \"dump\", go to standa
 
 // ---- the whole
 
-// What is said of bytes, printed. It is a call, so that the memory in which the arguments were read is free again.
+// What is said of bytes, printed. It is a call, as the others that make an `Output` are, so that this is no part of the frame under which
+// the arguments are read.
 #[inline(never)]
 fn print<F: Fn(&mut Output, &[u8])>(s: &[u8], say: F)
     requires { F.IsAlwaysCallable say }

@@ -218,7 +218,7 @@ impl<'a> Item<'a> {
         ensures bytes { result.bytes.now ≡ s.now }
         ensures parts { s.now ≡ result.first.now ++ (result.argument.now ++ (result.content.now ++ result.rest.now)) }
         ensures first { 0 < length s.now → length result.first.now ≡ 1 }
-        ensures place { result.at ≡ at }
+        ensures offset { result.at ≡ at }
     {
         let head = head_at(s, 0, ANY).ok();
         let (first, rest) = s.split_at(s.len().min(1));

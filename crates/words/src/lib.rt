@@ -69,7 +69,7 @@ pub fn decimal(word: &[u8]) -> Result<u64, NumberError>
     number.ok_or(NumberError::TooLarge)
 }
 
-// Whether each byte is a digit of this base, 1 or more. It has no early exit, so that it becomes vector code.
+// Whether each byte is a digit of this base, from 1 to 16. It has no early exit, so that it becomes vector code.
 #[tactic(auto, unfolding(crate::specs::Words::are_digits, crate::specs::Words::digit))]
 fn are_digits(word: &[u8], base: u8) -> bool
     requires { 0 < base }
