@@ -187,7 +187,7 @@ impl<'a> Words<'a> {
     pub fn lent<'r>(&mut self, room: &'r mut [u8]) -> Result<&'r mut [u8], Fault>
         ensures size { MatchResult result (λ r. lent_in (number_in (word_of self.old.rest.now)) (length room.old) ≡ Ok (length r.now))
             (λ e. lent_in (number_in (word_of self.old.rest.now)) (length room.old) ≡ Err e) }
-        ensures held { IfOk result (λ r. length r.now ≤ length room.old) }
+        ensures held { IfOk result (λ r. r.now ≡ take (length r.now) room.old) }
         ensures left { self.new.rest.now ≡ left_of self.old.rest.now }
     {
         let n = self.number()? as usize;

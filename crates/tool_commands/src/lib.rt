@@ -237,7 +237,7 @@ Offsets are in hex. Answers, and refusals by \"show\" and \"dump\", go to standa
 
 // ---- the whole
 
-// What is said of bytes, printed. It is a call, as the others that make an `Output` are, so that this is no part of the frame under which
+// What is said of bytes, printed. It is never inlined, nor are the others that make an `Output`: so its 64 KiB are not on the stack while
 // the arguments are read.
 #[inline(never)]
 fn print<F: Fn(&mut Output, &[u8])>(s: &[u8], say: F)

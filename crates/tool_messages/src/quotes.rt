@@ -44,6 +44,7 @@ impl fmt::Display for Quoted<'_> {
 fn put_text(room: &mut [u8; 64], address: &[u8]) -> usize
     ensures ipv4 { length address.now ≡ 4 → Wrote room.old 0 (ipv4_text address.now) room.new result }
     ensures ipv6 { length address.now ≡ 16 → Wrote room.old 0 (ipv6_text address.now) room.new result }
+    ensures other { (length address.now ≡ 4 → ⊥) → (length address.now ≡ 16 → ⊥) → result ≡ 0 }
     ensures held { result ≤ 64 }
 {
     match address.len() {
