@@ -23,9 +23,15 @@ is_bracketed w = leb 2 (length w) && (eqb (get_or w 0 0) 0x5B && eqb (get_or w (
 unfoldable pub without_brackets : Bytes → Bytes
 without_brackets w = cond (is_bracketed w) (drop 1 (take (length w - 1) w)) w
 
--- the 16 bytes of the IPv6 address that the text writes (RFC 4291, section 2.2), at the start of the room, or a refusal where it writes none
+-- the 16 bytes of the IPv6 address that the text writes (RFC 4291, section 2.2), or a refusal where it writes none
 abbrev pub ReadsIpv6 : Bytes → Bytes → Result ℕ AddressError → Bytes → Type 0
 ReadsIpv6 text room r after =
+    ((a : Ipv6Addr) × IsIpv6Text text a × (r ≡ Ok 16) × (after ≡ ipv6_octets a))
+    ⊎ (((a : Ipv6Addr) → ¬ (IsIpv6Text text a)) × (r ≡ Err AddressErrorV.NotIpv6) × (after ≡ room))
+
+-- the same at the start of a room that may be longer
+abbrev pub PutsIpv6 : Bytes → Bytes → Result ℕ AddressError → Bytes → Type 0
+PutsIpv6 text room r after =
     ((a : Ipv6Addr) × IsIpv6Text text a × (r ≡ Ok 16) × (after ≡ sets room 0 (ipv6_octets a)))
     ⊎ (((a : Ipv6Addr) → ¬ (IsIpv6Text text a)) × (r ≡ Err AddressErrorV.NotIpv6) × (after ≡ room))
 

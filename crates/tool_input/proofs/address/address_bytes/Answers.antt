@@ -20,3 +20,6 @@ returns-then-contains-clause-ipv6 c e h =
 
 pub returns-in_default-clause-ipv6 : goal.returns-in_default-clause-ipv6
 returns-in_default-clause-ipv6 c e h = rw (sym c.without_brackets.ensures) (inr (c.in_default.ensures, refl, refl))
+
+pub returns-in_default-clause-ipv6_alone : goal.returns-in_default-clause-ipv6_alone
+returns-in_default-clause-ipv6_alone c e h = rw (sym c.without_brackets.ensures) (inr (c.in_default.ensures, refl, refl))
