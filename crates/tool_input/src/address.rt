@@ -80,7 +80,7 @@ pub fn address_bytes(
 mod tests {
     use super::*;
 
-    // The examples of RFC 4291, section 2.2, in a room that the address fills.
+    // Examples of RFC 4291, section 2.2, one of them in brackets, in a room that the address fills.
     #[test]
     fn fills_16_bytes(rt: HostRuntime) {
         let written: [(&str, [u8; 16]); 5] = [
